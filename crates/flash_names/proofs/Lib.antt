@@ -1,0 +1,3 @@
+mod Readings
+mod Rules
+mod Taken

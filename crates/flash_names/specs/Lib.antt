@@ -1,0 +1,10 @@
+pub mod Clock
+pub mod FaultPlan
+pub mod Faults
+pub mod Geometry
+pub mod Lending
+pub mod ListClock
+pub mod MemorySink
+pub mod MemorySource
+pub mod Source
+pub mod Told

@@ -1,0 +1,36 @@
+/// A page of the flash file together with the version that it was opened with. No two pages that were
+/// opened have the same label.
+#[derive(Clone, Copy, Debug, PartialEq, Eq)]
+pub struct Label {
+    /// The page's number, counted from 0.
+    pub page: u32,
+    /// The page's version, counted from 1 over all pages.
+    pub version: u64,
+}
+
+/// A range of bytes of a labelled page.
+#[derive(Clone, Copy, Debug, PartialEq, Eq)]
+pub struct Place {
+    /// The page and its version.
+    pub label: Label,
+    /// The first byte's offset in the page, in bytes.
+    pub offset: u32,
+    /// The range's length in bytes.
+    pub length: u32,
+}
+
+/// The number of a step: which pass made it, and its number in that pass.
+#[derive(Clone, Copy, Debug, PartialEq, Eq)]
+pub struct Id {
+    /// The pass, counted from 1. Pass 0 is the store's own.
+    pub pass: u32,
+    /// The step's number in its pass, counted from 1.
+    pub seq: u64,
+}
+
+/// The name of an item in the store's slab.
+#[derive(Clone, Copy, Debug, PartialEq, Eq)]
+pub struct ItemId {
+    /// The slab's key.
+    pub key: usize,
+}

@@ -1,0 +1,274 @@
+use super::*;
+use std::io;
+use std::io::{Read, Write};
+use std::test::Fail;
+
+// A geometry at the lower border of each rule that has one.
+const SMALL: Geometry = Geometry {
+    memory: 2048,
+    item_size: 64,
+    item_max: 1024,
+    pages: 3,
+    page_size: 64,
+    buffer_size: 64,
+    buffers: 3,
+    compact_under: 3,
+    drop_under: 3,
+    max_frag: 100,
+    recache: 0,
+};
+
+// A geometry at the upper border of each rule that has one.
+const LARGE: Geometry = Geometry {
+    memory: 4_294_967_296,
+    item_size: 4_294_967_295,
+    item_max: 1_047_552,
+    pages: 4096,
+    page_size: 67_108_864,
+    buffer_size: 4_194_304,
+    buffers: 64,
+    compact_under: 4096,
+    drop_under: 4096,
+    max_frag: 100,
+    recache: 4_294_967_295,
+};
+
+#[test]
+fn names_the_first_broken_rule(rt: HostRuntime) {
+    let table = [
+        (SMALL, None),
+        (LARGE, None),
+        (
+            Geometry {
+                item_size: 63,
+                buffers: 2,
+                ..SMALL
+            },
+            Some(1),
+        ),
+        (
+            Geometry {
+                buffer_size: 63,
+                ..SMALL
+            },
+            Some(2),
+        ),
+        (
+            Geometry {
+                buffer_size: 0,
+                ..SMALL
+            },
+            Some(2),
+        ),
+        (
+            Geometry {
+                buffer_size: 4_194_305,
+                ..LARGE
+            },
+            Some(2),
+        ),
+        (
+            Geometry {
+                page_size: 96,
+                ..SMALL
+            },
+            Some(3),
+        ),
+        (
+            Geometry {
+                page_size: 0,
+                ..SMALL
+            },
+            Some(3),
+        ),
+        (
+            Geometry {
+                page_size: 71_303_168,
+                ..LARGE
+            },
+            Some(3),
+        ),
+        (Geometry { pages: 2, ..SMALL }, Some(4)),
+        (
+            Geometry {
+                pages: 4097,
+                ..LARGE
+            },
+            Some(4),
+        ),
+        (
+            Geometry {
+                buffers: 2,
+                ..SMALL
+            },
+            Some(5),
+        ),
+        (
+            Geometry {
+                buffers: 65,
+                ..LARGE
+            },
+            Some(5),
+        ),
+        (
+            Geometry {
+                item_max: 1025,
+                ..SMALL
+            },
+            Some(6),
+        ),
+        (
+            Geometry {
+                item_max: 1_047_553,
+                ..LARGE
+            },
+            Some(6),
+        ),
+        (
+            Geometry {
+                memory: 4_294_967_297,
+                ..LARGE
+            },
+            Some(7),
+        ),
+        (
+            Geometry {
+                compact_under: 4,
+                ..SMALL
+            },
+            Some(8),
+        ),
+        (
+            Geometry {
+                drop_under: 4,
+                ..SMALL
+            },
+            Some(9),
+        ),
+        (
+            Geometry {
+                max_frag: 101,
+                ..SMALL
+            },
+            Some(10),
+        ),
+    ];
+    for (geometry, broken) in table {
+        assert_eq!(rt;
+            geometry.check().err().map(|bad| bad.rule),
+            broken,
+            "{geometry:?}"
+        );
+    }
+}
+
+#[test]
+fn bounds_a_key(rt: HostRuntime) {
+    let letters = [b'k'; 251];
+    assert!(rt; Key::from_bytes(&[]).is_none());
+    assert!(rt; Key::from_bytes(&letters).is_none());
+    let longest = Key::from_bytes(&letters[..250]);
+    assert!(rt; longest.is_some_and(|key| key.copy().bytes() == &letters[..250]));
+    assert!(rt; Key::from_bytes(&[0]).is_some_and(|key| key.bytes() == [0].as_slice()));
+}
+
+#[test]
+fn cuts_a_blob(rt: HostRuntime) -> Result<(), Fail> {
+    let mut blob = Blob::from_slice(rt.alloc(), b"hello")?;
+    blob.bytes_mut().reverse();
+    assert_eq!(rt; blob.bytes(), b"olleh".as_slice());
+    let cut = blob.cut(1, 3);
+    assert_eq!(rt; cut.bytes(), b"lle".as_slice());
+    Ok(())
+}
+
+#[test]
+fn lists_in_order(rt: HostRuntime) -> Result<(), Fail> {
+    let listed = Listed::new(vec![in rt.alloc(); 3u8, 1, 2]?);
+    assert_eq!(rt; listed.slice(), [3, 1, 2].as_slice());
+    Ok(())
+}
+
+#[test]
+fn fails_in_the_planned_calls(rt: HostRuntime) -> Result<(), Fail> {
+    let alloc = rt.alloc();
+    let mut source = MemorySource::in_pieces(b"hello".to_vec(alloc)?, 2, vec![in alloc; 2]?);
+    let mut piece = [0; 8];
+    assert_eq!(rt; source.read(&mut piece), Ok(2));
+    assert_eq!(rt; source.read(&mut piece), Err(SourceFault));
+    assert_eq!(rt; source.read(&mut piece), Ok(2));
+    assert_eq!(rt; source.read(&mut piece), Ok(1));
+    assert_eq!(rt; piece[..1], b"o".as_slice()[..1]);
+    assert_eq!(rt; source.read(&mut piece), Ok(0));
+
+    let mut whole = MemorySource::new(b"hi".to_vec(alloc)?, Vec::new(alloc));
+    assert_eq!(rt; whole.read(&mut piece), Ok(2));
+
+    let mut sink = MemorySink::new(alloc, vec![in alloc; 2]?);
+    assert_eq!(rt; sink.write(b"he"), Ok(2));
+    assert_eq!(rt; sink.write(b"-"), Err(SinkFault));
+    assert_eq!(rt; sink.write(b"llo"), Ok(3));
+    assert_eq!(rt; sink.bytes(), b"hello".as_slice());
+    Ok(())
+}
+
+#[test]
+fn repeats_the_last_reading(rt: HostRuntime) -> Result<(), Fail> {
+    let mut clock = ListClock::new(vec![in rt.alloc(); 7, 5]?);
+    assert_eq!(rt; (clock.now(), clock.now(), clock.now()), (7, 5, 5));
+    let mut stopped = ListClock::new(Vec::new(rt.alloc()));
+    assert_eq!(rt; stopped.now(), 0);
+    Ok(())
+}
+
+// A reader and a writer that fail in each second call.
+#[derive(Drop)]
+struct Shaky {
+    calls: u8,
+}
+
+impl Shaky {
+    fn is_down(&mut self) -> bool {
+        self.calls = self.calls.wrapping_add(1);
+        self.calls % 2 == 0
+    }
+}
+
+impl Read for Shaky {
+    fn read(&mut self, buf: &mut [u8]) -> io::Result<usize> {
+        if self.is_down() {
+            return Err(io::Error::from(io::ErrorKind::Other));
+        }
+        buf.fill(b'x');
+        Ok(buf.len())
+    }
+}
+
+impl Write for Shaky {
+    fn write(&mut self, buf: &[u8]) -> io::Result<usize> {
+        if self.is_down() {
+            Ok(0)
+        } else {
+            Ok(buf.len().min(1))
+        }
+    }
+
+    fn flush(&mut self) -> io::Result<()> {
+        Ok(())
+    }
+}
+
+#[test]
+fn adapts_readers_and_writers(rt: HostRuntime) {
+    let mut piece = [0; 2];
+    let mut source = ReaderSource::new(Shaky { calls: 0 });
+    assert_eq!(rt; source.read(&mut piece), Ok(2));
+    assert_eq!(rt; piece, [b'x'; 2]);
+    assert_eq!(rt; source.read(&mut piece), Err(SourceFault));
+    assert_eq!(rt; source.read(&mut piece), Ok(2));
+
+    let mut sink = WriterSink::new(Shaky { calls: 0 });
+    assert_eq!(rt; sink.write(b"ab"), Ok(1));
+    assert_eq!(rt; sink.write(b"b"), Err(SinkFault));
+    assert_eq!(rt; sink.write(b"b"), Ok(1));
+}
