@@ -1,3 +1,5 @@
+mod Cuts
+mod Digits
 mod Readings
 mod Rules
 mod Taken

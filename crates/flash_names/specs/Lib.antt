@@ -1,4 +1,6 @@
+pub mod Adapters
 pub mod Clock
+pub mod Cut
 pub mod FaultPlan
 pub mod Faults
 pub mod Geometry
@@ -7,4 +9,6 @@ pub mod ListClock
 pub mod MemorySink
 pub mod MemorySource
 pub mod Source
+pub mod Numbers
 pub mod Told
+pub mod Words

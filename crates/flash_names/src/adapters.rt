@@ -1,4 +1,7 @@
-ghost use Rattle.std.specs.Prelude.{◌≡◌, ℕ, ◌<◌, ◌≤◌, List, length, None, IfOk, OnErr};
+ghost use Rattle.std.specs.Prelude.{◌≡◌, ◌<◌, ◌≤◌, length, None, IfOk};
+ghost use Rattle.std.specs.Io.KnownBytes.{ReadConsumes, WriteAppends};
+ghost use Rattle.flash_names.specs.Faults.{Counts};
+ghost use Rattle.flash_names.specs.Adapters.{reader_of, writer_of};
 
 use crate::{Sink, SinkFault, Source, SourceFault};
 use std::io::{Read, Write};
@@ -12,7 +15,9 @@ pub struct ReaderSource<R> {
 
 impl<R> ReaderSource<R> {
     /// The source over this reader.
-    pub fn new(reader: R) -> ReaderSource<R> {
+    pub fn new(reader: R) -> ReaderSource<R>
+        ensures { reader_of result ≡ reader }
+    {
         ReaderSource { reader, faults: 0 }
     }
 }
@@ -22,7 +27,13 @@ impl<R: Read> Source for ReaderSource<R> {
 
     ghost faults = { λ s. s.faults };
 
-    fn read(&mut self, into: &mut [u8]) -> Result<usize, SourceFault> {
+    fn read(&mut self, into: &mut [u8]) -> Result<usize, SourceFault>
+        ensures bound { IfOk result (λ n. n ≤ length into.old) }
+        ensures counts { Counts self.old.faults self.new.faults result }
+
+        // What the reader gave is passed on.
+        ensures passed_on { ReadConsumes (R.remaining (reader_of self.old)) (R.remaining (reader_of self.new)) result into.new }
+    {
         match self.reader.read(into) {
             Ok(n) => Ok(n),
             Err(_) => {
@@ -42,7 +53,9 @@ pub struct WriterSink<W> {
 
 impl<W> WriterSink<W> {
     /// The sink over this writer.
-    pub fn new(writer: W) -> WriterSink<W> {
+    pub fn new(writer: W) -> WriterSink<W>
+        ensures { writer_of result ≡ writer }
+    {
         WriterSink { writer, faults: 0 }
     }
 }
@@ -52,7 +65,14 @@ impl<W: Write> Sink for WriterSink<W> {
 
     ghost faults = { λ s. s.faults };
 
-    fn write(&mut self, bytes: &[u8]) -> Result<usize, SinkFault> {
+    fn write(&mut self, bytes: &[u8]) -> Result<usize, SinkFault>
+        ensures bound { IfOk result (λ n. n ≤ length bytes.now) }
+        ensures progress { IfOk result (λ n. 0 < length bytes.now → 0 < n) }
+        ensures counts { Counts self.old.faults self.new.faults result }
+
+        // The writer got what it took, and nothing of a write that failed.
+        ensures passed_on { WriteAppends (W.contents (writer_of self.old)) (W.contents (writer_of self.new)) result bytes.now }
+    {
         match self.writer.write(bytes) {
             Ok(n) if n > 0 || bytes.is_empty() => Ok(n),
             _ => {

@@ -14,6 +14,7 @@ mod memory_source;
 mod place;
 mod sink;
 mod source;
+mod words;
 
 pub use adapters::{ReaderSource, WriterSink};
 pub use blob::Blob;
@@ -27,6 +28,7 @@ pub use memory_source::MemorySource;
 pub use place::{Id, ItemId, Label, Place};
 pub use sink::{Sink, SinkFault};
 pub use source::{Source, SourceFault};
+pub use words::{cut_at_byte, read_number, split_word};
 
 #[cfg(test)]
 mod tests;

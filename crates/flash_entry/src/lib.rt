@@ -1,0 +1,24 @@
+//! What the store is asked and what it answers, the entries of its journal, and their text.
+#![tactic(auto)]
+
+mod answer;
+mod ask;
+mod copy;
+mod entry;
+mod found;
+mod journal;
+mod note;
+mod print;
+mod text;
+mod words;
+
+pub use answer::{Gone, Stored, Sum, Summed, Tally, Touched};
+pub use ask::{Arith, Ask, Create, Look, Mode, Put};
+pub use entry::{Close, Done, DropCause, EndCause, Entry, Seen};
+pub use found::{Cause, Closed, Found2, Head, Hit, Outcome, Told};
+pub use journal::{Counted, Journal, Kept};
+pub use note::{CloseNote, DoneNote, Note};
+pub use print::print_entry;
+
+#[cfg(test)]
+mod tests;
