@@ -1,3 +1,4 @@
 pub mod EntryText
+pub mod Head
 pub mod Noted
 pub mod Text

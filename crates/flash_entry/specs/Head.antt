@@ -1,0 +1,79 @@
+-- The first line of a script or a journal: the word `store` and the eleven numbers of a geometry.
+use Rattle.std.specs.Prelude.{◌≡◌, ℕ, ◌^◌, Bool, ◌&&◌, nat_eq, nat_lt, List, [], ◌∷◌, ◌++◌, length, slice_index, Option, None, Some, Result, Ok, Err, ⊤, codes, if◌then◌else◌}
+use Rattle.std.specs.Option.{option_and_then, option_map}
+use Rattle.std.specs.Str.{bytes_eq}
+use Rattle.flash_names.specs.declared.geometry.Geometry.{Geometry}
+use Rattle.flash_names.specs.declared.geometry.BadGeometry.{BadGeometry}
+use Rattle.flash_names.specs.Geometry.{checked}
+use Rattle.flash_names.specs.Numbers.{number_of}
+use Rattle.flash_names.specs.Words.{words}
+use Rattle.flash_entry.specs.Text.{number, line_end}
+use Rattle.flash_entry.specs.declared.head.HeadFault.{HeadFault}
+use Rattle.flash_entry.specs.declared.head.HeadFault.TheVariants.{BadWord, BadNumber}
+use Rattle.flash_entry.specs.declared.head.HeadFault.TheVariants as faults
+
+-- the numbers of words that are all numbers
+abbrev pub numbers_of : List (List ℕ) → Option (List ℕ)
+numbers_of [] = Some []
+numbers_of (w ∷ ws) = option_and_then (λ n. option_map (λ ns. n ∷ ns) (numbers_of ws)) (number_of w)
+
+-- the n-th number, where it fits 32 bits
+abbrev pub narrow_at : List ℕ → ℕ → Option ℕ
+narrow_at ns n = if nat_lt (slice_index ns n) (2 ^ 32) then Some (slice_index ns n) else None
+
+infixl 10 ◌>>=◌
+abbrev pub ◌>>=◌ : {A B : Type 0} → Option A → (A → Option B) → Option B
+None >>= f = None
+(Some x) >>= f = f x
+
+-- the geometry of eleven numbers in the order of its fields, where each fits its field
+unfoldable pub geometry_from : List ℕ → Option Geometry
+geometry_from ns = do
+  item_size ← narrow_at ns 1
+  item_max ← narrow_at ns 2
+  pages ← narrow_at ns 3
+  page_size ← narrow_at ns 4
+  buffer_size ← narrow_at ns 5
+  buffers ← narrow_at ns 6
+  compact_under ← narrow_at ns 7
+  drop_under ← narrow_at ns 8
+  max_frag ← narrow_at ns 9
+  recache ← narrow_at ns 10
+  Some (record {
+    memory = slice_index ns 0;
+    item_size = item_size;
+    item_max = item_max;
+    pages = pages;
+    page_size = page_size;
+    buffer_size = buffer_size;
+    buffers = buffers;
+    compact_under = compact_under;
+    drop_under = drop_under;
+    max_frag = max_frag;
+    recache = recache;
+  })
+
+-- a geometry that keeps its rules, or the first that it breaks
+abbrev pub kept_rules : Geometry → Result ⊤ BadGeometry → Result Geometry HeadFault
+kept_rules g (Ok _) = Ok g
+kept_rules g (Err bad) = Err (faults.Geometry bad.rule)
+
+abbrev pub checked_geometry : Option Geometry → Result Geometry HeadFault
+checked_geometry None = Err BadNumber
+checked_geometry (Some g) = kept_rules g (checked g)
+
+-- the geometry of a line of these words
+abbrev pub head_of_words : List (List ℕ) → Result Geometry HeadFault
+head_of_words [] = Err BadWord
+head_of_words (w ∷ ws) =
+    if bytes_eq w (codes "store") && nat_eq (length ws) 11 then checked_geometry (option_and_then geometry_from (numbers_of ws)) else Err BadWord
+
+-- the geometry of a line without its line feed, or its first fault
+abbrev pub head_of : List ℕ → Result Geometry HeadFault
+head_of line = head_of_words (words line)
+
+-- the line of a geometry
+abbrev pub head_line : Geometry → List ℕ
+head_line g =
+    codes "store" ++ number g.memory ++ number g.item_size ++ number g.item_max ++ number g.pages ++ number g.page_size ++ number g.buffer_size
+    ++ number g.buffers ++ number g.compact_under ++ number g.drop_under ++ number g.max_frag ++ number g.recache ++ line_end
