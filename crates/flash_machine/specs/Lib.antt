@@ -1,0 +1,9 @@
+pub mod Cache
+pub mod Item
+pub mod Laws
+pub mod Legal
+pub mod Live
+pub mod Looking
+pub mod Moments
+pub mod Steps
+pub mod Storing

@@ -1,0 +1,40 @@
+-- What each entry makes of the cache.
+use Rattle.std.specs.Prelude.{ℕ, Bool, List, [], ◌∷◌, ◌++◌, Option, None, Some, nat_le, if◌then◌else◌}
+use Rattle.std.specs.FinMap as map
+use Rattle.flash_names.specs.declared.geometry.Geometry.{Geometry}
+use Rattle.flash_entry.specs.declared.entry.Done.{Done}
+use Rattle.flash_entry.specs.declared.entry.Done.TheVariants as deeds
+use Rattle.flash_entry.specs.declared.entry.Entry.{Entry}
+use Rattle.flash_entry.specs.declared.entry.Entry.TheVariants as entries
+use Rattle.flash_machine.specs.Moments.{is_reached}
+use Rattle.flash_machine.specs.Cache.{Cache, first_cache}
+use Rattle.flash_machine.specs.Live.{live_item}
+use Rattle.flash_machine.specs.Storing.{store_step}
+use Rattle.flash_machine.specs.Looking.{look_next}
+
+-- the cache at a new moment: a pending flush that is reached takes effect
+abbrev pub clock_next : Cache → ℕ → Cache
+clock_next c moment =
+    if is_reached c.pending_flush moment then record c { now = moment; flush_mark = c.last_cas; pending_flush = None } else record c { now = moment }
+
+-- the cache after a command's step; the steps that no command makes yet leave it
+abbrev pub done_next : Geometry → List Entry → Cache → Done → Cache
+done_next g journal c (deeds.Store put answer) = (store_step g journal c put).1
+done_next g journal c _ = c
+
+-- the cache after an entry, by the journal before it; the kinds that nothing notes yet leave it
+abbrev pub next : Geometry → List Entry → Cache → Entry → Cache
+next g journal c (entries.Clock moment) = clock_next c moment
+next g journal c (entries.Did id done) = done_next g journal c done
+next g journal c (entries.Looked id key look seen) = look_next c key look (live_item journal c key)
+next g journal c (entries.Dropped key cause) = record c { items = map.remove c.items key }
+next g journal c _ = c
+
+-- the cache after more entries
+abbrev pub cache_from : Geometry → List Entry → Cache → List Entry → Cache
+cache_from g journal c [] = c
+cache_from g journal c (e ∷ es) = cache_from g (journal ++ e ∷ []) (next g journal c e) es
+
+-- the cache that a journal makes
+abbrev pub cache_of : Geometry → List Entry → Cache
+cache_of g journal = cache_from g [] first_cache journal
