@@ -42,7 +42,7 @@ pub record Rises (c : Cache) (moment : ℕ) : Type 0 where
 
 -- the answer is that of the step; no step of another command is legal yet
 abbrev pub IsAnswered : Geometry → List Entry → Cache → Done → Type 0
-IsAnswered g journal c (deeds.Store put answer) = answer ≡ (store_step g journal c put).0
+IsAnswered g journal c (deeds.Store put answer) = answer ≡ (store_step g c put (live_item journal c put.key)).0
 IsAnswered g journal c _ = ⊥
 
 -- what was found is the live item under the key

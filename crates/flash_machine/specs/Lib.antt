@@ -1,4 +1,5 @@
 pub mod Cache
+pub mod Codes
 pub mod Item
 pub mod Laws
 pub mod Legal

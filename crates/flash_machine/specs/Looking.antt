@@ -6,11 +6,9 @@ use Rattle.flash_entry.specs.declared.ask.Look.{Look}
 use Rattle.flash_entry.specs.declared.found.Head.{Head}
 use Rattle.flash_entry.specs.declared.entry.Seen.{Seen}
 use Rattle.flash_entry.specs.declared.entry.Seen.TheVariants as seen
-use Rattle.flash_entry.specs.declared.entry.Entry.{Entry}
 use Rattle.flash_machine.specs.Moments.{deadline}
 use Rattle.flash_machine.specs.Item.{Item}
 use Rattle.flash_machine.specs.Cache.{Cache}
-use Rattle.flash_machine.specs.Live.{live_item}
 
 -- where an item's value is
 abbrev pub seen_at : ℕ → Option Label → Seen

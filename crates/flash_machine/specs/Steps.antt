@@ -19,7 +19,7 @@ clock_next c moment =
 
 -- the cache after a command's step; the steps that no command makes yet leave it
 abbrev pub done_next : Geometry → List Entry → Cache → Done → Cache
-done_next g journal c (deeds.Store put answer) = (store_step g journal c put).1
+done_next g journal c (deeds.Store put answer) = (store_step g c put (live_item journal c put.key)).1
 done_next g journal c _ = c
 
 -- the cache after an entry, by the journal before it; the kinds that nothing notes yet leave it

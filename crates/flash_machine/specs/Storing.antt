@@ -7,11 +7,9 @@ use Rattle.flash_entry.specs.declared.ask.Mode.TheVariants.{Set, Add, Replace, A
 use Rattle.flash_entry.specs.declared.ask.Put.{Put}
 use Rattle.flash_entry.specs.declared.answer.Stored.{Stored}
 use Rattle.flash_entry.specs.declared.answer.Stored.TheVariants as answers
-use Rattle.flash_entry.specs.declared.entry.Entry.{Entry}
 use Rattle.flash_machine.specs.Moments.{deadline}
 use Rattle.flash_machine.specs.Item.{Item}
 use Rattle.flash_machine.specs.Cache.{Cache}
-use Rattle.flash_machine.specs.Live.{live_item}
 
 -- whether a value can be joined to an item: there is one, and its value is in memory
 abbrev pub can_join : Option Item → Bool
@@ -48,6 +46,12 @@ plain_item c put = record {
 abbrev pub joined_item : Cache → Item → List ℕ → Item
 joined_item c item value = record item { value = value; cas = c.last_cas + 1; fetched = false; access = c.now; label = None }
 
+-- the value that is stored: that of the command, joined to the item's where the mode says so
+abbrev pub stored_value : Put → Mode → Option Item → List ℕ
+stored_value put Append (Some item) = item.value ++ put.value
+stored_value put Prepend (Some item) = put.value ++ item.value
+stored_value put _ _ = put.value
+
 -- the item that is stored
 abbrev pub stored_item : Cache → Put → Mode → Option Item → Item
 stored_item c put Append (Some item) = joined_item c item (item.value ++ put.value)
@@ -55,9 +59,9 @@ stored_item c put Prepend (Some item) = joined_item c item (put.value ++ item.va
 stored_item c put _ _ = plain_item c put
 
 -- the refusal by the size of the value, or by the last CAS number
-abbrev pub size_refusal : Geometry → Cache → Item → Option Stored
-size_refusal g c item =
-    if nat_lt g.item_max (length item.value) then Some answers.TooLarge else if nat_le (2 ^ 63) c.last_cas then Some answers.NoNumber else None
+abbrev pub size_refusal : Geometry → Cache → List ℕ → Option Stored
+size_refusal g c value =
+    if nat_lt g.item_max (length value) then Some answers.TooLarge else if nat_le (2 ^ 63) c.last_cas then Some answers.NoNumber else None
 
 -- the first refusal that there is
 abbrev pub or_else : Option Stored → Option Stored → Option Stored
@@ -68,7 +72,7 @@ or_else (Some refusal) second = Some refusal
 abbrev pub refusal : Geometry → Cache → Put → Option Item → Option Stored
 refusal g c put live =
     if mode_fails put.mode live then Some answers.NotStored
-    else or_else (compare_refusal put.compare live) (size_refusal g c (stored_item c put put.mode live))
+    else or_else (compare_refusal put.compare live) (size_refusal g c (stored_value put put.mode live))
 
 -- the cache with this item under the key, which took the next CAS number
 abbrev pub with_stored : Cache → List ℕ → Item → Cache
@@ -79,8 +83,6 @@ abbrev pub stored_or : Option Stored → Cache → List ℕ → Item → Stored 
 stored_or (Some refusal) c key item = (refusal, c)
 stored_or None c key item = (answers.Stored (c.last_cas + 1), with_stored c key item)
 
--- the answer and the next cache
-abbrev pub store_step : Geometry → List Entry → Cache → Put → Stored × Cache
-store_step g journal c put =
-    let live = live_item journal c put.key in
-    stored_or (refusal g c put live) c put.key (stored_item c put put.mode live)
+-- the answer and the next cache, by the live item under the key
+abbrev pub store_step : Geometry → Cache → Put → Option Item → Stored × Cache
+store_step g c put live = stored_or (refusal g c put live) c put.key (stored_item c put put.mode live)

@@ -1,0 +1,11 @@
+mod Keys
+mod Kept
+mod Lists
+mod News
+mod Pairs
+mod Positions
+mod Steps
+mod StoreDone
+mod Stored
+mod Sweeps
+mod Told

@@ -1,0 +1,94 @@
+-- What the list of items makes of a call: the cache and the desk that the call leaves.
+use Rattle.std.proofs.Common.{◌≡◌, ℕ, ◌+◌, ◌≤◌, Bool, true, false, ◌||◌, List, [], ◌∷◌, Option, None, Some, cond, if◌then◌else◌, refl, sym, ◌∙◌, ap, subst, arith}
+use Rattle.std.specs.Prelude.{slice_get, is_some, nat_le}
+use Rattle.std.specs.Option.{option_map, option_map_or, option_and_then, option_to_list}
+use Rattle.std.specs.FinMap as finite
+use Rattle.std.proofs.lemmas.Bool.Decides.{nat_tests}
+use Rattle.flash_names.specs.declared.geometry.Geometry.{Geometry}
+use Rattle.flash_entry.specs.declared.ask.Put.{Put}
+use Rattle.flash_entry.specs.declared.answer.Stored.{Stored}
+use Rattle.flash_machine.specs.Item as machine
+use Rattle.flash_machine.specs.Moments.{is_reached}
+use Rattle.flash_machine.specs.Cache.{Cache}
+use Rattle.flash_machine.specs.Live.{is_dead}
+use Rattle.flash_machine.specs.Storing.{refusal, stored_item, stored_or}
+use Rattle.flash_core.specs.declared.item.Item.{Item}
+use Rattle.flash_core.specs.Items.{find_item, without, item_of, pair_of, items_of, keys_of, cache_of_items, HaveOwnKeys, AreNumbered}
+use Rattle.flash_core.specs.Places.{IsPlace, removed, in_front}
+use Rattle.flash_core.specs.Store.{Desk}
+use Rattle.flash_core.specs.Calls.{keys_without, is_dead_at, sweep, stored_desk}
+use Rattle.flash_core.specs.Choice.{Chosen, chosen, items_behind, leaving}
+use Rattle.flash_core.proofs.Pairs.{get-items, items_of-without, items_of-in_front}
+use Rattle.flash_core.proofs.Kept.{own-without, own-in_front, none-without, numbered-without, numbered-more, number_found, keys_of-without, without-absent, removed_is_without}
+use Rattle.flash_core.proofs.Sweeps.{swept, IsHere}
+
+-- what stands at a key's place is its first item
+pub found_at : (key : List ℕ) (items : List Item) (place : Option ℕ) → IsPlace key items place → option_and_then (slice_get items) place ≡ find_item key items
+found_at key items None none = sym none
+found_at key items (Some at) place = sym place.found
+
+or_false : (b : Bool) → (b || false) ≡ b
+or_false true = refl
+or_false false = refl
+
+not_flushed : (cas : ℕ) → 1 ≤ cas → nat_le cas 0 ≡ false
+not_flushed cas some = grind (arith, nat_tests)
+
+-- the items after a sweep
+abbrev pub swept_items : Bool → List ℕ → List Item → List Item
+swept_items dead key items = if dead then without key items else items
+
+-- the desk of a list of items
+abbrev pub desk_of : List Item → Desk
+desk_of items = record { hot = keys_of items }
+
+module _ (items : List Item) (moment last : ℕ) (key : List ℕ) (own : HaveOwnKeys items) (numbered : AreNumbered last items) where
+  abbrev c : Cache
+  c = cache_of_items items moment last
+
+  -- every item is in memory
+  pub all_here : IsHere c key
+  all_here item here = label_of (find_item key items) item (sym (get-items items key) ∙ here)
+    where
+      label_of : (found : Option Item) (item : machine.Item) → option_map item_of found ≡ Some item → item.label ≡ None
+      label_of None item is = absurd (cc is)
+      label_of (Some i) item is = let same : item_of i ≡ item = cc in ap (λ (j : machine.Item). j.label) (sym same)
+
+  dead_found : (found : Option Item) → find_item key items ≡ found → is_dead_at c (option_map item_of found) ≡ option_map_or (λ item. is_reached item.deadline moment) found false
+  dead_found None here = refl
+  dead_found (Some i) here =
+      ap (λ b. is_reached i.deadline moment || b) (not_flushed i.cas (number_found last key items i numbered here).0) ∙ or_false (is_reached i.deadline moment)
+
+  -- whether the sweep drops the key's item
+  pub dead_is : (dead : Bool) (place : Option ℕ) → IsPlace key items place → dead ≡ option_map_or (λ item. is_reached item.deadline moment) (option_and_then (slice_get items) place) false
+      → dead ≡ is_dead_at c (finite.get c.items key)
+  dead_is dead place at is =
+      is ∙ ap (λ (found : Option Item). option_map_or (λ item. is_reached item.deadline moment) found false) (found_at key items place at)
+      ∙ sym (dead_found (find_item key items) refl) ∙ ap (is_dead_at c) (sym (get-items items key))
+
+  -- the sweep by the code's test
+  pub sweep_is : (dead : Bool) → dead ≡ is_dead_at c (finite.get c.items key) → sweep c (desk_of items) key ≡ swept c (desk_of items) key dead
+  sweep_is dead is = ap (swept c (desk_of items) key) (sym is)
+
+  pub swept_cache : (dead : Bool) → (swept c (desk_of items) key dead).cache ≡ cache_of_items (swept_items dead key items) moment last
+  swept_cache true = ap (λ m. record c { items = m }) (sym (items_of-without key items own))
+  swept_cache false = refl
+
+  pub swept_desk : (dead : Bool) → (swept c (desk_of items) key dead).desk ≡ desk_of (swept_items dead key items)
+  swept_desk true = ap (λ (keys : List (List ℕ)). record { hot = keys }) (sym (keys_of-without key items))
+  swept_desk false = refl
+
+  -- the live item by the code's test
+  pub live_is : (dead : Bool) (place : Option ℕ) (live : Option Item) → IsPlace key items place → live ≡ (if dead then None else option_and_then (slice_get items) place)
+      → items_behind live ≡ finite.get (items_of (swept_items dead key items)) key
+  live_is true place live at is = ap items_behind is ∙ sym (get-items (without key items) key ∙ ap (option_map item_of) (none-without key items own))
+  live_is false place live at is = ap items_behind (is ∙ found_at key items place at) ∙ sym (get-items items key)
+
+  -- the items after a store that chose a refusal or an item
+  pub after_items : (dead : Bool) (place : Option ℕ) (item : Option Item) → IsPlace key items place
+      → in_front item (removed (leaving place (dead || is_some item)) items) ≡ in_front item (swept_items (dead || is_some item) key items)
+  after_items dead place item at = leaves (dead || is_some item)
+    where
+      leaves : (gone : Bool) → in_front item (removed (leaving place gone) items) ≡ in_front item (swept_items gone key items)
+      leaves true = ap (in_front item) (removed_is_without key items place at)
+      leaves false = refl

@@ -1,0 +1,61 @@
+-- The position of the first item with a key is its place.
+use Rattle.std.proofs.Common.{◌≡◌, ℕ, zero, suc, ◌+◌, ◌<◌, Bool, true, false, List, [], ◌∷◌, length, Option, None, Some, cond, refl, sym, ◌∙◌, ap, subst, arith}
+use Rattle.std.specs.Prelude.{position, slice_get, slice_set, remove}
+use Rattle.std.specs.List.{position_from}
+use Rattle.std.specs.Str.{bytes_eq}
+use Rattle.std.proofs.lemmas.Iterator.Adapters.{position_from-zero}
+use Rattle.flash_core.specs.declared.item.Item.{Item}
+use Rattle.flash_core.specs.Items.{find_item, without, replaced}
+use Rattle.flash_core.specs.Places.{IsPlaceOf, IsPlace}
+
+-- the place, where the first one is counted from n
+record IsFrom (key : List ℕ) (items : List Item) (n at : ℕ) : Type 0 where
+  behind : ℕ
+  is : at ≡ n + behind
+  place : IsPlaceOf key items behind
+
+abbrev IsFirstFrom : List ℕ → List Item → ℕ → Option ℕ → Type 0
+IsFirstFrom key items n None = find_item key items ≡ None
+IsFirstFrom key items n (Some at) = IsFrom key items n at
+
+-- the first item has the key
+at_front : (key : List ℕ) (i : Item) (items : List Item) → bytes_eq key i.key ≡ true → IsPlaceOf key (i ∷ items) 0
+at_front key i items same = record {
+  within = omega arith;
+  found = rw same refl;
+  others = rw same refl;
+  set = λ new. rw same refl;
+}
+
+-- another item stands in front
+one_behind : (key : List ℕ) (i : Item) (items : List Item) (at : ℕ) → bytes_eq key i.key ≡ false → IsPlaceOf key items at → IsPlaceOf key (i ∷ items) (suc at)
+one_behind key i items at other place = record {
+  within = omega (arith, place.within);
+  found = rw other place.found;
+  others = rw other (ap (λ (l : List Item). i ∷ l) place.others);
+  set = λ new. rw other (ap (λ (l : List Item). i ∷ l) (place.set new));
+}
+
+go_on : (key : List ℕ) (i : Item) (items : List Item) (n : ℕ) (found : Option ℕ) → bytes_eq key i.key ≡ false → IsFirstFrom key items (n + 1) found → IsFirstFrom key (i ∷ items) n found
+go_on key i items n None other none = rw other none
+go_on key i items n (Some at) other from = record { behind = suc from.behind; is = omega (arith, from.is); place = one_behind key i items from.behind other from.place }
+
+abbrev test : List ℕ → Item → Bool
+test key item = bytes_eq key item.key
+
+first_from : (key : List ℕ) (items : List Item) (n : ℕ) → IsFirstFrom key items n (position_from (test key) n items)
+first_from key [] n = refl
+first_from key (i ∷ items) n = by_test (bytes_eq key i.key) refl (first_from key items (n + 1))
+  where
+    by_test : (same : Bool) → bytes_eq key i.key ≡ same → IsFirstFrom key items (n + 1) (position_from (test key) (n + 1) items) → IsFirstFrom key (i ∷ items) n (cond same (Some n) (position_from (test key) (n + 1) items))
+    by_test true is rest = record { behind = 0; is = omega arith; place = at_front key i items is }
+    by_test false is rest = go_on key i items n (position_from (test key) (n + 1) items) is rest
+
+from_zero : (key : List ℕ) (items : List Item) (found : Option ℕ) → IsFirstFrom key items 0 found → IsPlace key items found
+from_zero key items None none = none
+from_zero key items (Some at) from = let same : from.behind ≡ at = omega (arith, from.is) in subst (λ (n : ℕ). IsPlaceOf key items n) same from.place
+
+pub position_is_place : (key : List ℕ) (items : List Item) (found : Option ℕ) → found ≡ position (λ item. bytes_eq key item.key) items → IsPlace key items found
+position_is_place key items found is =
+    let from : IsFirstFrom key items 0 (position (test key) items) = subst (λ (r : Option ℕ). IsFirstFrom key items 0 r) (sym (position_from-zero (test key) items)) (first_from key items 0) in
+    from_zero key items found (subst (λ (r : Option ℕ). IsFirstFrom key items 0 r) (sym is) from)

@@ -1,0 +1,77 @@
+-- A sweep is legal, and behind it the key's live item is what the cache has under the key.
+use Rattle.std.proofs.Common.{◌≡◌, ℕ, Bool, true, false, ◌&&◌, not, List, [], ◌∷◌, ◌++◌, Option, None, Some, cond, if◌then◌else◌, refl, sym, ◌∙◌, ap, subst}
+use Rattle.std.specs.FinMap as finite
+use Rattle.std.specs.Str.{bytes_eq}
+use Rattle.std.proofs.lemmas.List.{append-nil}
+use Rattle.flash_names.specs.declared.place.Id.{Id}
+use Rattle.flash_names.specs.declared.geometry.Geometry.{Geometry}
+use Rattle.flash_entry.specs.declared.entry.DropCause.TheVariants as drops
+use Rattle.flash_entry.specs.declared.entry.Entry.{Entry}
+use Rattle.flash_entry.specs.declared.entry.Entry.TheVariants as entries
+use Rattle.flash_machine.specs.Item.{Item}
+use Rattle.flash_machine.specs.Cache.{Cache}
+use Rattle.flash_machine.specs.Live.{is_dead, is_live, has_ended, where_passes, live_item}
+use Rattle.flash_machine.specs.Legal.{IsNew}
+use Rattle.flash_core.specs.Store.{Desk, Call}
+use Rattle.flash_core.specs.Calls.{keys_without, is_dead_at, sweep}
+use Rattle.flash_core.proofs.Keys.{bytes_eq-refl}
+use Rattle.flash_core.proofs.Pairs.{get-removed}
+use Rattle.flash_core.proofs.Told.{Goes}
+use Rattle.flash_core.proofs.News.{new_behind}
+
+-- the item under the key, if there is one, is in memory
+abbrev pub IsHere : Cache → List ℕ → Type 0
+IsHere c key = (item : Item) → finite.get c.items key ≡ Some item → item.label ≡ None
+
+-- a sweep that drops, or not
+abbrev pub swept : Cache → Desk → List ℕ → Bool → Call Bool
+swept c desk key dead =
+    if dead then (record {
+      entries = entries.Dropped key drops.Dead ∷ [];
+      cache = record c { items = finite.remove c.items key };
+      desk = record { hot = keys_without key desk.hot };
+      answer = true
+    }) else (record { entries = []; cache = c; desk = desk; answer = false })
+
+gone : (c : Cache) (key : List ℕ) → finite.get (finite.remove c.items key) key ≡ None
+gone c key = get-removed c.items key key ∙ ap (λ b. cond b None (finite.get c.items key)) (bytes_eq-refl key)
+
+module _ (c : Cache) (desk : Desk) (key : List ℕ) where
+  goes_by : (g : Geometry) (h : List Entry) (found : Option Item) (dead : Bool) → finite.get c.items key ≡ found → is_dead_at c found ≡ dead → Goes g h c (swept c desk key dead).entries (swept c desk key dead).cache
+  goes_by g h found false here is = record { legal = tt; makes = refl }
+  goes_by g h None true here is = absurd (cc is)
+  goes_by g h (Some item) true here is = record { legal = ((item, here, is), tt); makes = refl }
+
+  live_step : (j : List Entry) (item : Item) (dead : Bool) (label : _) → is_dead c item ≡ dead → dead ≡ false → item.label ≡ label → label ≡ None → where_passes (is_live j c) (Some item) ≡ Some item
+  live_step j item dead label is alive at none =
+      let not_dead : is_dead c item ≡ false = is ∙ alive in
+      let here : item.label ≡ None = at ∙ none in
+      let no_end : has_ended j item.label ≡ false = ap (has_ended j) here in
+      let lives : is_live j c item ≡ true = ap (λ b. not b && not (has_ended j item.label)) not_dead ∙ ap (λ b. not false && not b) no_end in
+      ap (λ b. if b then Some item else None) lives
+
+  live_by : (j : List Entry) (found : Option Item) (dead : Bool) → finite.get c.items key ≡ found → is_dead_at c found ≡ dead → IsHere c key
+      → live_item j (swept c desk key dead).cache key ≡ finite.get (swept c desk key dead).cache.items key
+  live_by j found true here is plain = ap (where_passes (is_live j (swept c desk key true).cache)) (gone c key) ∙ sym (gone c key)
+  live_by j None false here is plain = ap (where_passes (is_live j c)) here ∙ sym here
+  live_by j (Some item) false here is plain =
+      ap (where_passes (is_live j c)) here ∙ live_step j item false None is refl (plain item here) refl ∙ sym here
+
+  new_by : (h : List Entry) (id : Id) (dead : Bool) → IsNew h id → IsNew (h ++ (swept c desk key dead).entries) id
+  new_by h id true new = new_behind h id (entries.Dropped key drops.Dead ∷ []) new (tt, tt)
+  new_by h id false new = subst (λ (j : List Entry). IsNew j id) (sym (append-nil h)) new
+
+-- what a sweep does
+pub record Sweeps (g : Geometry) (h : List Entry) (c : Cache) (key : List ℕ) (call : Call Bool) : Type 0 where
+  pub goes : Goes g h c call.entries call.cache
+  pub live : (j : List Entry) → live_item j call.cache key ≡ finite.get call.cache.items key
+  pub new : (id : Id) → IsNew h id → IsNew (h ++ call.entries) id
+
+pub sweeps : (g : Geometry) (h : List Entry) (c : Cache) (desk : Desk) (key : List ℕ) → IsHere c key → Sweeps g h c key (sweep c desk key)
+sweeps g h c desk key plain =
+    let dead = is_dead_at c (finite.get c.items key) in
+    record {
+      goes = goes_by c desk key g h (finite.get c.items key) dead refl refl;
+      live = λ j. live_by c desk key j (finite.get c.items key) dead refl refl plain;
+      new = λ id. new_by c desk key h id dead;
+    }

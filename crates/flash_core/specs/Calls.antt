@@ -1,0 +1,93 @@
+-- What each call of a store does, from its geometry, its cache and its desk.
+use Rattle.std.specs.Prelude.{ℕ, ◌^◌, Bool, true, false, List, [], ◌∷◌, ◌++◌, Option, None, Some, min, nat_lt, if◌then◌else◌}
+use Rattle.std.specs.Str.{bytes_eq}
+use Rattle.std.specs.FinMap as finite
+use Rattle.flash_names.specs.declared.place.Id.{Id}
+use Rattle.flash_names.specs.declared.geometry.Geometry.{Geometry}
+use Rattle.flash_entry.specs.declared.ask.Put.{Put}
+use Rattle.flash_entry.specs.declared.ask.Look.{Look}
+use Rattle.flash_entry.specs.declared.answer.Stored.{Stored}
+use Rattle.flash_entry.specs.declared.entry.Done.TheVariants as deeds
+use Rattle.flash_entry.specs.declared.entry.DropCause.TheVariants as drops
+use Rattle.flash_entry.specs.declared.entry.Entry.{Entry}
+use Rattle.flash_entry.specs.declared.entry.Entry.TheVariants as entries
+use Rattle.flash_machine.specs.Item.{Item}
+use Rattle.flash_machine.specs.Cache.{Cache}
+use Rattle.flash_machine.specs.Live.{is_dead}
+use Rattle.flash_machine.specs.Storing.{refusal, store_step}
+use Rattle.flash_machine.specs.Looking.{seen_of, look_next, head_of_item}
+use Rattle.flash_machine.specs.Steps.{clock_next}
+use Rattle.flash_core.specs.declared.found.Found.{Found}
+use Rattle.flash_core.specs.declared.found.Found.TheVariants as found
+use Rattle.flash_core.specs.Store.{Desk, Call}
+
+-- the keys without the first that is this one
+abbrev pub keys_without : List ℕ → List (List ℕ) → List (List ℕ)
+keys_without key [] = []
+keys_without key (k ∷ ks) = if bytes_eq key k then ks else k ∷ keys_without key ks
+
+-- whether the item under the key is dead, if there is one
+abbrev pub is_dead_at : Cache → Option Item → Bool
+is_dead_at c None = false
+is_dead_at c (Some item) = is_dead c item
+
+-- the entry of a key's item that is dropped because it is dead, if it is
+abbrev pub drop_of : List ℕ → Bool → List Entry
+drop_of key dead = if dead then entries.Dropped key drops.Dead ∷ [] else []
+
+-- a dead item under the key is dropped before a call that names the key does anything else
+abbrev pub sweep : Cache → Desk → List ℕ → Call Bool
+sweep c desk key =
+    if is_dead_at c (finite.get c.items key) then (record {
+      entries = entries.Dropped key drops.Dead ∷ [];
+      cache = record c { items = finite.remove c.items key };
+      desk = record { hot = keys_without key desk.hot };
+      answer = true;
+    }) else (record { entries = []; cache = c; desk = desk; answer = false })
+
+-- the desk after a store that was refused or not: the item that was stored is in front
+abbrev pub stored_desk : Option Stored → Desk → List ℕ → Desk
+stored_desk None desk key = record { hot = key ∷ keys_without key desk.hot }
+stored_desk (Some refusal) desk key = desk
+
+-- a store behind the sweep
+abbrev pub store_after : Geometry → Call Bool → Id → Put → Call Stored
+store_after g swept id put =
+    let live = finite.get swept.cache.items put.key in
+    let step = store_step g swept.cache put live in record {
+      entries = swept.entries ++ entries.Did id (deeds.Store put step.0) ∷ [];
+      cache = step.1;
+      desk = stored_desk (refusal g swept.cache put live) swept.desk put.key;
+      answer = step.0
+    }
+
+abbrev pub store_call : Geometry → Cache → Desk → Id → Put → Call Stored
+store_call g c desk id put = store_after g (sweep c desk put.key) id put
+
+-- what is told of a lookup, by the live item under the key
+abbrev pub found_of : Cache → Look → Option Item → Found
+found_of c look None = found.Miss
+found_of c look (Some item) =
+    if look.value then found.Here (record { head = head_of_item c look item; value = item.value }) else found.Head (head_of_item c look item)
+
+-- a lookup behind the sweep
+abbrev pub look_after : Call Bool → Id → List ℕ → Look → Call Found
+look_after swept id key look =
+    let live = finite.get swept.cache.items key in record {
+      entries = swept.entries ++ entries.Looked id key look (seen_of live) ∷ [];
+      cache = look_next swept.cache key look live;
+      desk = swept.desk;
+      answer = found_of swept.cache look live;
+    }
+
+abbrev pub look_call : Cache → Desk → Id → List ℕ → Look → Call Found
+look_call c desk id key look = look_after (sweep c desk key) id key look
+
+-- a reading of the clock, up to 2^62, that is above the moment
+abbrev pub clock_to : Cache → Desk → ℕ → Call Bool
+clock_to c desk moment =
+    if nat_lt c.now moment then (record { entries = entries.Clock moment ∷ []; cache = clock_next c moment; desk = desk; answer = true })
+    else (record { entries = []; cache = c; desk = desk; answer = false })
+
+abbrev pub clock_call : Cache → Desk → ℕ → Call Bool
+clock_call c desk reading = clock_to c desk (min reading (2 ^ 62))

@@ -1,0 +1,42 @@
+-- What a store chooses to do with a value.
+use Rattle.std.specs.Prelude.{◌≡◌, ℕ, ◌+◌, Bool, List, Option, None, Some, if◌then◌else◌}
+use Rattle.std.specs.Option.{option_map}
+use Rattle.flash_names.specs.declared.geometry.Geometry.{Geometry}
+use Rattle.flash_entry.specs.declared.ask.Put.{Put}
+use Rattle.flash_entry.specs.declared.answer.Stored.{Stored}
+use Rattle.flash_entry.specs.declared.answer.Stored.TheVariants as stored
+use Rattle.flash_machine.specs.Item as machine
+use Rattle.flash_machine.specs.Cache.{Cache, first_cache}
+use Rattle.flash_machine.specs.Storing.{stored_item, refusal}
+use Rattle.flash_core.specs.declared.item.Item.{Item}
+use Rattle.flash_core.specs.declared.choice.Choice.{Choice}
+use Rattle.flash_core.specs.Items.{item_of, pair_of}
+
+-- the answer, the key and the item that is stored if one is, and the last CAS number from then on
+abbrev pub Chosen : Type 0
+Chosen = Stored × (Option (List ℕ × machine.Item) × ℕ)
+
+abbrev pub chosen : Option Stored → ℕ → List ℕ × machine.Item → Chosen
+chosen (Some refusal) last_cas pair = (refusal, (None, last_cas))
+chosen None last_cas pair = (stored.Stored (last_cas + 1), (Some pair, last_cas + 1))
+
+abbrev pub chosen_by : Choice → Chosen
+chosen_by choice = (choice.answer, (option_map pair_of choice.item, choice.last_cas))
+
+-- a cache without items, of which a choice reads the numbers alone
+abbrev pub numbers : ℕ → ℕ → Cache
+numbers now last_cas = record first_cache { now = now; last_cas = last_cas }
+
+-- what a store does with a value, by the live item under its key
+abbrev pub choice_of : Geometry → ℕ → ℕ → Put → Option machine.Item → Chosen
+choice_of g now last_cas put live =
+    let c = numbers now last_cas in
+    chosen (refusal g c put live) last_cas (put.key, stored_item c put put.mode live)
+
+-- the item behind a reference, where there is one
+abbrev pub items_behind : Option Item → Option machine.Item
+items_behind item = option_map item_of item
+
+-- the place that loses its item, if one does
+abbrev pub leaving : Option ℕ → Bool → Option ℕ
+leaving place gone = if gone then place else None

@@ -1,0 +1,60 @@
+-- The items of a store as it keeps them: a list, the one stored last in front.
+use Rattle.std.specs.Prelude.{◌≡◌, ℕ, ◌<◌, ◌≤◌, List, [], ◌∷◌, map, Option, None, Some, if◌then◌else◌}
+use Rattle.std.specs.Str.{bytes_eq}
+use Rattle.std.specs.FinMap as finite
+use Rattle.flash_machine.specs.Item as machine
+use Rattle.flash_machine.specs.Cache.{Items, Cache}
+use Rattle.flash_core.specs.declared.item.Item.{Item}
+
+-- the first item with the key
+abbrev pub find_item : List ℕ → List Item → Option Item
+find_item key [] = None
+find_item key (i ∷ is) = if bytes_eq key i.key then Some i else find_item key is
+
+-- the others
+abbrev pub without : List ℕ → List Item → List Item
+without key [] = []
+without key (i ∷ is) = if bytes_eq key i.key then is else i ∷ without key is
+
+-- the same with another in its place
+abbrev pub replaced : List ℕ → Item → List Item → List Item
+replaced key new [] = []
+replaced key new (i ∷ is) = if bytes_eq key i.key then new ∷ is else i ∷ replaced key new is
+
+-- no two items have one key
+abbrev pub HaveOwnKeys : List Item → Type 0
+HaveOwnKeys [] = Unit {0}
+HaveOwnKeys (i ∷ is) = (find_item i.key is ≡ None) × HaveOwnKeys is
+
+-- each item has a CAS number, up to this one
+abbrev pub AreNumbered : ℕ → List Item → Type 0
+AreNumbered last [] = Unit {0}
+AreNumbered last (i ∷ is) = ((1 ≤ i.cas) × (i.cas ≤ last)) × AreNumbered last is
+
+-- an item as the cache has it: all of it is in memory
+abbrev pub item_of : Item → machine.Item
+item_of i = record {
+  value = i.value;
+  flags = i.flags;
+  cas = i.cas;
+  deadline = i.deadline;
+  fetched = i.fetched;
+  access = i.access;
+  label = None;
+}
+
+-- its key and the item
+abbrev pub pair_of : Item → List ℕ × machine.Item
+pair_of i = (i.key, item_of i)
+
+-- the items by their keys
+abbrev pub items_of : List Item → Items
+items_of is = finite.from_entries (map pair_of is)
+
+-- their keys in order
+abbrev pub keys_of : List Item → List (List ℕ)
+keys_of is = map (λ i. i.key) is
+
+-- the cache of a store without flushes
+abbrev pub cache_of_items : List Item → ℕ → ℕ → Cache
+cache_of_items is now last_cas = record { items = items_of is; now = now; last_cas = last_cas; flush_mark = 0; pending_flush = None }

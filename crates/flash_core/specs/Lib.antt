@@ -1,0 +1,7 @@
+pub mod Calls
+pub mod Choice
+pub mod Items
+pub mod Open
+pub mod Places
+pub mod Sound
+pub mod Store

@@ -1,0 +1,26 @@
+-- Where an item stands in the list of a store.
+use Rattle.std.specs.Prelude.{◌≡◌, ℕ, ◌<◌, List, [], ◌∷◌, length, remove, slice_get, slice_set, Option, None, Some}
+use Rattle.flash_core.specs.declared.item.Item.{Item}
+use Rattle.flash_core.specs.Items.{find_item, without, replaced}
+
+-- the first item with the key stands at this place
+pub record IsPlaceOf (key : List ℕ) (items : List Item) (at : ℕ) : Type 0 where
+  pub within : at < length items
+  pub found : find_item key items ≡ slice_get items at
+  pub others : without key items ≡ remove items at
+  pub set : (new : Item) → replaced key new items ≡ slice_set items at new
+
+-- where the first item with the key stands, or that there is none
+abbrev pub IsPlace : List ℕ → List Item → Option ℕ → Type 0
+IsPlace key items None = find_item key items ≡ None
+IsPlace key items (Some at) = IsPlaceOf key items at
+
+-- the items without the one at a place
+abbrev pub removed : Option ℕ → List Item → List Item
+removed None items = items
+removed (Some at) items = remove items at
+
+-- an item in front of the others
+abbrev pub in_front : Option Item → List Item → List Item
+in_front None items = items
+in_front (Some item) items = item ∷ items

@@ -1,0 +1,39 @@
+-- What a store is, as its calls see it.
+use Rattle.std.specs.Prelude.{◌≡◌, ℕ, Bool, List, Option, refl}
+use Rattle.std.specs.Ordering.{nat_cmp}
+use Rattle.std.specs.Coded.{Coded, code_by, coded×, coded_list, coded_ℕ}
+use Rattle.std.specs.FinMap as finite
+use Rattle.flash_names.specs.Told.{behind}
+use Rattle.flash_names.specs.declared.geometry.Geometry.{Geometry}
+use Rattle.flash_entry.specs.declared.entry.Entry.{Entry}
+use Rattle.flash_machine.specs.Cache.{Cache}
+
+-- what a store has beside its cache
+pub record Desk : Type 0 where
+  -- the keys of the items, the one stored last in front
+  pub hot : List (List ℕ)
+
+pub record Store : Type 0 where
+  pub geometry : Geometry
+  -- the journal's entries, where it tells them
+  pub told : Option (List Entry)
+  -- whether the journal is sure to take the next note
+  pub ready : Bool
+  pub cache : Cache
+  pub desk : Desk
+
+-- what a call does: the entries that it notes, the cache and the desk that it leaves, and its answer
+pub record Call (A : Type 0) : Type 0 where
+  pub entries : List Entry
+  pub cache : Cache
+  pub desk : Desk
+  pub answer : A
+
+-- a store after a call: nothing else changes, but for whether the journal is ready
+abbrev pub Becomes : {A : Type 0} → Store → Call A → Store → Type 0
+Becomes old call new =
+    new ≡ record old { told = behind call.entries old.told; ready = new.ready; cache = call.cache; desk = call.desk }
+
+-- a store that found no memory: nothing changes, but for whether the journal is ready
+abbrev pub Stays : Store → Store → Type 0
+Stays old new = new ≡ record old { ready = new.ready }

@@ -1,0 +1,12 @@
+use flash_entry::{Head, Hit};
+
+/// What a lookup found.
+#[derive(Debug, Drop)]
+pub enum Found {
+    /// No live item.
+    Miss,
+    /// An item whose value isn't wanted.
+    Head(Head),
+    /// An item with its value.
+    Here(Hit),
+}

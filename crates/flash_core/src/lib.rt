@@ -1,0 +1,12 @@
+//! The store: a cache whose every call notes what it did in a journal.
+#![tactic(auto)]
+
+mod choice;
+mod found;
+mod item;
+mod items;
+mod state;
+mod store;
+
+pub use found::Found;
+pub use state::{Core, OpenError, OpenWhy};
