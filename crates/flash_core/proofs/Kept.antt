@@ -2,7 +2,7 @@
 use Rattle.std.proofs.Common.{◌≡◌, ℕ, ◌+◌, ◌≤◌, Bool, true, false, List, [], ◌∷◌, map, Option, None, Some, cond, if◌then◌else◌, refl, sym, ◌∙◌, ap, subst, arith}
 use Rattle.std.specs.Str.{bytes_eq}
 use Rattle.flash_core.specs.declared.item.Item.{Item}
-use Rattle.flash_core.specs.Items.{find_item, without, replaced, keys_of, HaveOwnKeys, AreNumbered}
+use Rattle.flash_core.specs.Items.{find_item, without, replaced, keys_of, HaveOwnKeys, IsKept, AreKept}
 use Rattle.flash_core.specs.Places.{IsPlace, removed}
 use Rattle.flash_core.specs.Calls.{keys_without}
 use Rattle.flash_core.proofs.Keys.{same_key, bytes_eq-refl}
@@ -45,39 +45,40 @@ pub own-replaced : (k : List ℕ) (new : Item) (is : List Item) (old : Item) →
 own-replaced k new [] old key found own = tt
 own-replaced k new (i ∷ is) old key found own =
     own_replaced_step k new i is (bytes_eq k i.key) refl key own.0 own.1
-      (λ other. find-replaced k new is old key (behind_other (bytes_eq k i.key) i old (find_item k is) found other) i.key ∙ other_key k i new is (bytes_eq i.key k) other refl own.0)
-      (λ other. own-replaced k new is old key (behind_other (bytes_eq k i.key) i old (find_item k is) found other) own.1)
+    (λ other. find-replaced k new is old key (behind_other (bytes_eq k i.key) i old (find_item k is) found other) i.key ∙ other_key k i new is (bytes_eq i.key k) other refl own.0)
+    (λ other. own-replaced k new is old key (behind_other (bytes_eq k i.key) i old (find_item k is) found other) own.1)
 
--- the numbers
-numbered_step : (last : ℕ) (i : Item) (is rest : List Item) (a : Bool) → AreNumbered last (i ∷ is) → AreNumbered last rest → AreNumbered last (if a then is else i ∷ rest)
-numbered_step last i is rest true all kept = all.1
-numbered_step last i is rest false all kept = (all.0, kept)
+-- what is kept of each item
+module _ (item_max last : ℕ) where
+  kept_step : (i : Item) (is rest : List Item) (a : Bool) → AreKept item_max last (i ∷ is) → AreKept item_max last rest → AreKept item_max last (if a then is else i ∷ rest)
+  kept_step i is rest true all kept = all.1
+  kept_step i is rest false all kept = (all.0, kept)
 
-pub numbered-without : (last : ℕ) (k : List ℕ) (is : List Item) → AreNumbered last is → AreNumbered last (without k is)
-numbered-without last k [] all = tt
-numbered-without last k (i ∷ is) all = numbered_step last i is (without k is) (bytes_eq k i.key) all (numbered-without last k is all.1)
+  pub kept-without : (k : List ℕ) (is : List Item) → AreKept item_max last is → AreKept item_max last (without k is)
+  kept-without k [] all = tt
+  kept-without k (i ∷ is) all = kept_step i is (without k is) (bytes_eq k i.key) all (kept-without k is all.1)
 
-numbered_replaced_step : (last : ℕ) (new i : Item) (is rest : List Item) (a : Bool) → (1 ≤ new.cas) × (new.cas ≤ last) → AreNumbered last (i ∷ is) → AreNumbered last rest → AreNumbered last (if a then new ∷ is else i ∷ rest)
-numbered_replaced_step last new i is rest true number all kept = (number, all.1)
-numbered_replaced_step last new i is rest false number all kept = (all.0, kept)
+  kept_replaced_step : (new i : Item) (is rest : List Item) (a : Bool) → IsKept item_max last new → AreKept item_max last (i ∷ is) → AreKept item_max last rest → AreKept item_max last (if a then new ∷ is else i ∷ rest)
+  kept_replaced_step new i is rest true one all kept = (one, all.1)
+  kept_replaced_step new i is rest false one all kept = (all.0, kept)
 
-pub numbered-replaced : (last : ℕ) (k : List ℕ) (new : Item) (is : List Item) → (1 ≤ new.cas) × (new.cas ≤ last) → AreNumbered last is → AreNumbered last (replaced k new is)
-numbered-replaced last k new [] number all = tt
-numbered-replaced last k new (i ∷ is) number all = numbered_replaced_step last new i is (replaced k new is) (bytes_eq k i.key) number all (numbered-replaced last k new is number all.1)
+  pub kept-replaced : (k : List ℕ) (new : Item) (is : List Item) → IsKept item_max last new → AreKept item_max last is → AreKept item_max last (replaced k new is)
+  kept-replaced k new [] one all = tt
+  kept-replaced k new (i ∷ is) one all = kept_replaced_step new i is (replaced k new is) (bytes_eq k i.key) one all (kept-replaced k new is one all.1)
 
--- a greater last number
-pub numbered-more : (last more : ℕ) (is : List Item) → last ≤ more → AreNumbered last is → AreNumbered more is
-numbered-more last more [] le all = tt
-numbered-more last more (i ∷ is) le all = ((all.0.0, omega (arith, all.0.1, le)), numbered-more last more is le all.1)
+  -- a greater last number
+  pub kept-more : (more : ℕ) (is : List Item) → last ≤ more → AreKept item_max last is → AreKept item_max more is
+  kept-more more [] le all = tt
+  kept-more more (i ∷ is) le all = (record { some = all.0.some; number = omega (arith, all.0.number, le); deadline = all.0.deadline; size = all.0.size }, kept-more more is le all.1)
 
--- the number of an item that is found
-number_step : (last : ℕ) (i found : Item) (rest : Option Item) (a : Bool) → (1 ≤ i.cas) × (i.cas ≤ last) → (rest ≡ Some found → (1 ≤ found.cas) × (found.cas ≤ last)) → (if a then Some i else rest) ≡ Some found → (1 ≤ found.cas) × (found.cas ≤ last)
-number_step last i found rest true number behind is = let same : i ≡ found = cc in subst (λ (j : Item). (1 ≤ j.cas) × (j.cas ≤ last)) same number
-number_step last i found rest false number behind is = behind is
+  found_step : (i found : Item) (rest : Option Item) (a : Bool) → IsKept item_max last i → (rest ≡ Some found → IsKept item_max last found) → (if a then Some i else rest) ≡ Some found → IsKept item_max last found
+  found_step i found rest true one behind is = let same : i ≡ found = cc in subst (IsKept item_max last) same one
+  found_step i found rest false one behind is = behind is
 
-pub number_found : (last : ℕ) (k : List ℕ) (is : List Item) (found : Item) → AreNumbered last is → find_item k is ≡ Some found → (1 ≤ found.cas) × (found.cas ≤ last)
-number_found last k [] found all is = absurd (cc is)
-number_found last k (i ∷ is) found all here = number_step last i found (find_item k is) (bytes_eq k i.key) all.0 (number_found last k is found all.1) here
+  -- an item that is found
+  pub kept_found : (k : List ℕ) (is : List Item) (found : Item) → AreKept item_max last is → find_item k is ≡ Some found → IsKept item_max last found
+  kept_found k [] found all is = absurd (cc is)
+  kept_found k (i ∷ is) found all here = found_step i found (find_item k is) (bytes_eq k i.key) all.0 (kept_found k is found all.1) here
 
 -- the key of an item that is found
 key_step : (k : List ℕ) (i found : Item) (rest : Option Item) (a : Bool) → bytes_eq k i.key ≡ a → (rest ≡ Some found → found.key ≡ k) → (if a then Some i else rest) ≡ Some found → found.key ≡ k

@@ -1,6 +1,8 @@
+mod Clocked
 mod Keys
 mod Kept
 mod Lists
+mod Looked
 mod News
 mod Pairs
 mod Positions

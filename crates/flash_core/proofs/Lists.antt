@@ -13,13 +13,13 @@ use Rattle.flash_machine.specs.Cache.{Cache}
 use Rattle.flash_machine.specs.Live.{is_dead}
 use Rattle.flash_machine.specs.Storing.{refusal, stored_item, stored_or}
 use Rattle.flash_core.specs.declared.item.Item.{Item}
-use Rattle.flash_core.specs.Items.{find_item, without, item_of, pair_of, items_of, keys_of, cache_of_items, HaveOwnKeys, AreNumbered}
+use Rattle.flash_core.specs.Items.{find_item, without, item_of, pair_of, items_of, keys_of, cache_of_items, HaveOwnKeys, IsKept, AreKept}
 use Rattle.flash_core.specs.Places.{IsPlace, removed, in_front}
-use Rattle.flash_core.specs.Store.{Desk}
-use Rattle.flash_core.specs.Calls.{keys_without, is_dead_at, sweep, stored_desk}
+use Rattle.flash_core.specs.Store.{Desk, Call}
+use Rattle.flash_core.specs.Calls.{drop_of, is_dead_at, sweep}
 use Rattle.flash_core.specs.Choice.{Chosen, chosen, items_behind, leaving}
 use Rattle.flash_core.proofs.Pairs.{get-items, items_of-without, items_of-in_front}
-use Rattle.flash_core.proofs.Kept.{own-without, own-in_front, none-without, numbered-without, numbered-more, number_found, keys_of-without, without-absent, removed_is_without}
+use Rattle.flash_core.proofs.Kept.{own-without, own-in_front, none-without, kept_found, keys_of-without, without-absent, removed_is_without}
 use Rattle.flash_core.proofs.Sweeps.{swept, IsHere}
 
 -- what stands at a key's place is its first item
@@ -42,7 +42,7 @@ swept_items dead key items = if dead then without key items else items
 abbrev pub desk_of : List Item → Desk
 desk_of items = record { hot = keys_of items }
 
-module _ (items : List Item) (moment last : ℕ) (key : List ℕ) (own : HaveOwnKeys items) (numbered : AreNumbered last items) where
+module _ (items : List Item) (moment last : ℕ) (key : List ℕ) (item_max : ℕ) (own : HaveOwnKeys items) (kept : AreKept item_max last items) where
   abbrev c : Cache
   c = cache_of_items items moment last
 
@@ -57,7 +57,7 @@ module _ (items : List Item) (moment last : ℕ) (key : List ℕ) (own : HaveOwn
   dead_found : (found : Option Item) → find_item key items ≡ found → is_dead_at c (option_map item_of found) ≡ option_map_or (λ item. is_reached item.deadline moment) found false
   dead_found None here = refl
   dead_found (Some i) here =
-      ap (λ b. is_reached i.deadline moment || b) (not_flushed i.cas (number_found last key items i numbered here).0) ∙ or_false (is_reached i.deadline moment)
+      ap (λ b. is_reached i.deadline moment || b) (not_flushed i.cas (kept_found item_max last key items i kept here).some) ∙ or_false (is_reached i.deadline moment)
 
   -- whether the sweep drops the key's item
   pub dead_is : (dead : Bool) (place : Option ℕ) → IsPlace key items place → dead ≡ option_map_or (λ item. is_reached item.deadline moment) (option_and_then (slice_get items) place) false
@@ -78,6 +78,18 @@ module _ (items : List Item) (moment last : ℕ) (key : List ℕ) (own : HaveOwn
   swept_desk true = ap (λ (keys : List (List ℕ)). record { hot = keys }) (sym (keys_of-without key items))
   swept_desk false = refl
 
+  -- the sweep with its cache and its desk as the list of items makes them
+  abbrev pub swept_call : Bool → Call Bool
+  swept_call dead = record { entries = drop_of key dead; cache = cache_of_items (swept_items dead key items) moment last; desk = desk_of (swept_items dead key items); answer = dead }
+
+  swept_parts : (dead : Bool) → swept c (desk_of items) key dead ≡ record { entries = drop_of key dead; cache = (swept c (desk_of items) key dead).cache; desk = (swept c (desk_of items) key dead).desk; answer = dead }
+  swept_parts true = refl
+  swept_parts false = refl
+
+  pub swept_call_is : (dead : Bool) → dead ≡ is_dead_at c (finite.get c.items key) → sweep c (desk_of items) key ≡ swept_call dead
+  swept_call_is dead is =
+      sweep_is dead is ∙ swept_parts dead ∙ (λ j. record { entries = drop_of key dead; cache = swept_cache dead j; desk = swept_desk dead j; answer = dead })
+
   -- the live item by the code's test
   pub live_is : (dead : Bool) (place : Option ℕ) (live : Option Item) → IsPlace key items place → live ≡ (if dead then None else option_and_then (slice_get items) place)
       → items_behind live ≡ finite.get (items_of (swept_items dead key items)) key
@@ -92,3 +104,9 @@ module _ (items : List Item) (moment last : ℕ) (key : List ℕ) (own : HaveOwn
       leaves : (gone : Bool) → in_front item (removed (leaving place gone) items) ≡ in_front item (swept_items gone key items)
       leaves true = ap (in_front item) (removed_is_without key items place at)
       leaves false = refl
+
+  -- a live item is one of the list
+  pub live_kept : (dead : Bool) (place : Option ℕ) (live : Option Item) → IsPlace key items place → live ≡ (if dead then None else option_and_then (slice_get items) place)
+      → (i : Item) → live ≡ Some i → IsKept item_max last i
+  live_kept true place live at is i here = absurd (cc (is, here))
+  live_kept false place live at is i here = kept_found item_max last key items i kept (sym (found_at key items place at) ∙ sym is ∙ here)

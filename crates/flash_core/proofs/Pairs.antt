@@ -81,7 +81,7 @@ pub find-replaced : (k : List ℕ) (new : Item) (is : List Item) (old : Item) �
 find-replaced k new [] old key found q = absurd (cc found)
 find-replaced k new (i ∷ is) old key found q =
     replaced_step q k i is new (bytes_eq k i.key) (bytes_eq q k) (bytes_eq q i.key) key refl refl refl
-      (λ other. find-replaced k new is old key (behind_other (bytes_eq k i.key) i old (find_item k is) found other) q)
+    (λ other. find-replaced k new is old key (behind_other (bytes_eq k i.key) i old (find_item k is) found other) q)
 
 -- a key's first item is found by no other key, and without it the key has none
 pub find-without : (k : List ℕ) (is : List Item) → HaveOwnKeys is → (q : List ℕ) → find_item q (without k is) ≡ cond (bytes_eq q k) None (find_item q is)

@@ -33,8 +33,8 @@ store_goes g h c desk id put here new =
     let swept = sweeps g h c desk put.key here in
     let live = swept.live (h ++ s.entries) in
     goes_behind g h c s.cache _ s.entries _ swept.goes
-      (swept.new id new, ap (λ (i : Option Item). (store_step g s.cache put i).0) (sym live))
-      (ap (λ (i : Option Item). (store_step g s.cache put i).1) live)
+    (swept.new id new, ap (λ (i : Option Item). (store_step g s.cache put i).0) (sym live))
+    (ap (λ (i : Option Item). (store_step g s.cache put i).1) live)
 
 -- a lookup
 pub look_goes : (g : Geometry) (h : List Entry) (c : Cache) (desk : Desk) (id : Id) (key : List _) (look : Look) → IsHere c key → IsNew h id → Goes g h c (look_call c desk id key look).entries (look_call c desk id key look).cache
@@ -43,5 +43,5 @@ look_goes g h c desk id key look here new =
     let swept = sweeps g h c desk key here in
     let live = swept.live (h ++ s.entries) in
     goes_behind g h c s.cache _ s.entries _ swept.goes
-      (swept.new id new, ap seen_of (sym live))
-      (ap (look_next s.cache key look) live)
+    (swept.new id new, ap seen_of (sym live))
+    (ap (look_next s.cache key look) live)

@@ -14,13 +14,13 @@ use Rattle.flash_machine.specs.Moments.{is_reached}
 use Rattle.flash_machine.specs.Cache.{Cache}
 use Rattle.flash_core.specs.declared.item.Item.{Item}
 use Rattle.flash_core.specs.declared.choice.Choice.{Choice}
-use Rattle.flash_core.specs.Items.{cache_of_items, HaveOwnKeys, AreNumbered}
+use Rattle.flash_core.specs.Items.{cache_of_items, HaveOwnKeys, AreKept}
 use Rattle.flash_core.specs.Places.{IsPlace, removed, in_front}
 use Rattle.flash_core.specs.Calls.{drop_of, store_call}
 use Rattle.flash_core.specs.Choice.{choice_of, chosen_by, items_behind, leaving}
 use Rattle.flash_core.specs.Sound.{IsSound, IsNewTold, IsToldRun}
 use Rattle.flash_core.proofs.Lists.{desk_of, all_here, after_items}
-use Rattle.flash_core.proofs.Stored.{stored_items, own_after, numbered_after, swept_entries, StoresAs, stores_as}
+use Rattle.flash_core.proofs.Stored.{stored_items, own_after, kept_after, StoresAs, stores_as}
 use Rattle.flash_core.proofs.Steps.{store_goes}
 use Rattle.flash_core.proofs.Told.{told_goes_on}
 
@@ -36,10 +36,6 @@ module _ (g : Geometry) (items : List Item) (moment last : ℕ) (told : Option (
     pub noted : told2 ≡ behind (store_call g before (desk_of items) id put).entries told
     pub sound : IsSound g items2 moment choice.last_cas told2
 
-  same_drop : (dead : Bool) → swept_entries g items moment last put was.own_keys was.numbered dead ≡ drop_of put.key dead
-  same_drop true = refl
-  same_drop false = refl
-
   pub is_stored : (place : Option ℕ) (dead : Bool) (live : Option Item) (choice : Choice) (items2 : List Item) (told2 : Option (List Entry))
       → IsNewTold told id
       → IsPlace put.key items place
@@ -47,20 +43,18 @@ module _ (g : Geometry) (items : List Item) (moment last : ℕ) (told : Option (
       → live ≡ (if dead then None else option_and_then (slice_get items) place)
       → chosen_by choice ≡ choice_of g moment last put (items_behind live)
       → last ≤ choice.last_cas
-      → AreNumbered choice.last_cas (option_to_list choice.item)
+      → AreKept g.item_max choice.last_cas (option_to_list choice.item)
       → items2 ≡ in_front choice.item (removed (leaving place (dead || is_some choice.item)) items)
       → told2 ≡ behind (drop_of put.key dead ++ entries.Did id (deeds.Store put choice.answer) ∷ []) told
       → IsStored choice items2 told2
   is_stored place dead live choice items2 told2 new at dead_at live_at chose rises numbered put_at noted =
       let own = was.own_keys in
-      let stores = stores_as g items moment last put own was.numbered id dead place live choice.answer choice.item choice.last_cas at dead_at live_at chose in
+      let stores = stores_as g items moment last put g.item_max own was.kept id dead place live choice.answer choice.item choice.last_cas at dead_at live_at chose in
       let call = store_call g before (desk_of items) id put in
-      let items_are : items2 ≡ stored_items dead choice.item put.key items = put_at ∙ after_items items moment last put.key own was.numbered dead place choice.item at in
+      let items_are : items2 ≡ stored_items dead choice.item put.key items = put_at ∙ after_items items moment last put.key g.item_max own was.kept dead place choice.item at in
       let cache_is : cache_of_items items2 moment choice.last_cas ≡ call.cache = ap (λ (l : List Item). cache_of_items l moment choice.last_cas) items_are ∙ stores.cache_is in
-      let entries_are : drop_of put.key dead ++ entries.Did id (deeds.Store put choice.answer) ∷ [] ≡ call.entries =
-      ap (λ (l : List Entry). l ++ entries.Did id (deeds.Store put choice.answer) ∷ []) (sym (same_drop dead)) ∙ stores.entries_are in
-      let noted_is : told2 ≡ behind call.entries told = noted ∙ ap (λ (l : List Entry). behind l told) entries_are in
-      let run = told_goes_on g before call.cache told call.entries was.run (λ h tells. store_goes g h before (desk_of items) id put (all_here items moment last put.key own was.numbered) (new h tells)) in
+      let noted_is : told2 ≡ behind call.entries told = noted ∙ ap (λ (l : List Entry). behind l told) stores.entries_are in
+      let run = told_goes_on g before call.cache told call.entries was.run (λ h tells. store_goes g h before (desk_of items) id put (all_here items moment last put.key g.item_max own was.kept) (new h tells)) in
       record {
         answer = stores.answer_is;
         cache = cache_is;
@@ -68,8 +62,8 @@ module _ (g : Geometry) (items : List Item) (moment last : ℕ) (told : Option (
         noted = noted_is;
         sound = record {
           passes = was.passes;
-          own_keys = subst HaveOwnKeys (sym items_are) (own_after items moment last put.key own was.numbered dead choice.item stores.named);
-          numbered = subst (AreNumbered choice.last_cas) (sym items_are) (numbered_after items moment last put.key own was.numbered dead choice.item choice.last_cas rises numbered);
+          own_keys = subst HaveOwnKeys (sym items_are) (own_after items moment last put.key g.item_max own was.kept dead choice.item stores.named);
+          kept = subst (AreKept g.item_max choice.last_cas) (sym items_are) (kept_after items moment last put.key g.item_max own was.kept dead choice.item choice.last_cas rises numbered);
           within = was.within;
           run = subst (λ (d : Cache). IsToldRun g d told2) (sym cache_is) (subst (IsToldRun g call.cache) (sym noted_is) run);
         };

@@ -15,15 +15,14 @@ use Rattle.flash_machine.specs.Moments.{is_reached}
 use Rattle.flash_machine.specs.Cache.{Cache}
 use Rattle.flash_machine.specs.Storing.{refusal, stored_item, stored_or, store_step}
 use Rattle.flash_core.specs.declared.item.Item.{Item}
-use Rattle.flash_core.specs.Items.{without, item_of, pair_of, items_of, keys_of, cache_of_items, HaveOwnKeys, AreNumbered}
+use Rattle.flash_core.specs.Items.{without, item_of, pair_of, items_of, keys_of, cache_of_items, HaveOwnKeys, AreKept}
 use Rattle.flash_core.specs.Places.{IsPlace, removed, in_front}
 use Rattle.flash_core.specs.Store.{Desk, Call}
-use Rattle.flash_core.specs.Calls.{keys_without, is_dead_at, sweep, store_after, store_call, stored_desk}
+use Rattle.flash_core.specs.Calls.{keys_without, drop_of, store_after, store_call, stored_desk}
 use Rattle.flash_core.specs.Choice.{Chosen, chosen, choice_of, numbers, items_behind, leaving}
 use Rattle.flash_core.proofs.Pairs.{items_of-in_front}
-use Rattle.flash_core.proofs.Kept.{own-without, own-in_front, none-without, numbered-without, numbered-more, keys_of-without, without-absent}
-use Rattle.flash_core.proofs.Sweeps.{swept}
-use Rattle.flash_core.proofs.Lists.{swept_items, desk_of, dead_is, sweep_is, swept_cache, swept_desk, live_is, after_items}
+use Rattle.flash_core.proofs.Kept.{own-without, own-in_front, none-without, kept-without, kept-more, keys_of-without, without-absent}
+use Rattle.flash_core.proofs.Lists.{swept_items, desk_of, dead_is, swept_call, swept_call_is, live_is, after_items}
 
 abbrev Chose : Option Stored → ℕ → List ℕ → machine.Item → Stored → Option Item → ℕ → Type 0
 Chose r last key new answer item last2 = ◌≡◌ {A = Chosen} (answer, (option_map pair_of item, last2)) (chosen r last (key, new))
@@ -32,7 +31,7 @@ Chose r last key new answer item last2 = ◌≡◌ {A = Chosen} (answer, (option
 abbrev pub stored_items : Bool → Option Item → List ℕ → List Item → List Item
 stored_items dead item key items = in_front item (swept_items (dead || is_some item) key items)
 
-module _ (items : List Item) (moment last : ℕ) (key : List ℕ) (own : HaveOwnKeys items) (numbered : AreNumbered last items) where
+module _ (items : List Item) (moment last : ℕ) (key : List ℕ) (item_max : ℕ) (own : HaveOwnKeys items) (kept : AreKept item_max last items) where
   -- the cache that the sweep leaves
   abbrev swept_to : Bool → Cache
   swept_to dead = cache_of_items (swept_items dead key items) moment last
@@ -51,11 +50,11 @@ module _ (items : List Item) (moment last : ℕ) (key : List ℕ) (own : HaveOwn
   own_after true (Some i) named = own-in_front key i items (named i refl) own
   own_after false (Some i) named = own-in_front key i items (named i refl) own
 
-  pub numbered_after : (dead : Bool) (item : Option Item) (last2 : ℕ) → last ≤ last2 → AreNumbered last2 (option_to_list item) → AreNumbered last2 (stored_items dead item key items)
-  numbered_after true None last2 rises new = numbered-more last last2 (without key items) rises (numbered-without last key items numbered)
-  numbered_after false None last2 rises new = numbered-more last last2 items rises numbered
-  numbered_after true (Some i) last2 rises new = (new.0, numbered-more last last2 (without key items) rises (numbered-without last key items numbered))
-  numbered_after false (Some i) last2 rises new = (new.0, numbered-more last last2 (without key items) rises (numbered-without last key items numbered))
+  pub kept_after : (dead : Bool) (item : Option Item) (last2 : ℕ) → last ≤ last2 → AreKept item_max last2 (option_to_list item) → AreKept item_max last2 (stored_items dead item key items)
+  kept_after true None last2 rises new = kept-more item_max last last2 (without key items) rises (kept-without item_max last key items kept)
+  kept_after false None last2 rises new = kept-more item_max last last2 items rises kept
+  kept_after true (Some i) last2 rises new = (new.0, kept-more item_max last last2 (without key items) rises (kept-without item_max last key items kept))
+  kept_after false (Some i) last2 rises new = (new.0, kept-more item_max last last2 (without key items) rises (kept-without item_max last key items kept))
 
   -- an item in front of the others makes the map with it, whether the key's was swept before or not
   inserted : (dead : Bool) (i : Item) → i.key ≡ key → items_of (i ∷ without key items) ≡ finite.insert (items_of (swept_items dead key items)) key (item_of i)
@@ -90,9 +89,9 @@ module _ (items : List Item) (moment last : ℕ) (key : List ℕ) (own : HaveOwn
       record {
         answer_is = ap (λ (t : Chosen). t.0) is;
         cache_is =
-          ap (λ (l : List Item). cache_of_items l moment last2) (front_items dead i)
-          ∙ (λ j. record { items = inserted dead i named j; now = moment; last_cas = number j; flush_mark = 0; pending_flush = None })
-          ∙ ap (λ (it : machine.Item). (stored_or None (swept_to dead) key it).1) same;
+            ap (λ (l : List Item). cache_of_items l moment last2) (front_items dead i)
+            ∙ (λ j. record { items = inserted dead i named j; now = moment; last_cas = number j; flush_mark = 0; pending_flush = None })
+            ∙ ap (λ (it : machine.Item). (stored_or None (swept_to dead) key it).1) same;
         desk_is = ap desk_of (front_items dead i) ∙ in_front_keys dead i named;
         named = λ j there. let one : i ≡ j = cc in subst (λ (k : Item). k.key ≡ key) one named;
       }
@@ -112,53 +111,34 @@ module _ (items : List Item) (moment last : ℕ) (key : List ℕ) (own : HaveOwn
   leaves (Some s) new dead answer None last2 is = leaves_refused s new dead answer last2 is
   leaves (Some s) new dead answer (Some i) last2 is = absurd (cc (ap (λ (t : Chosen). t.1.0) is))
 
-module _ (g : Geometry) (items : List Item) (moment last : ℕ) (put : Put) (own : HaveOwnKeys items) (numbered : AreNumbered last items) where
+module _ (g : Geometry) (items : List Item) (moment last : ℕ) (put : Put) (item_max : ℕ) (own : HaveOwnKeys items) (kept : AreKept item_max last items) where
   abbrev key : List ℕ
   key = put.key
-
-  -- the entry of a sweep, where it drops
-  abbrev pub swept_entries : Bool → List Entry
-  swept_entries dead = (swept (cache_of_items items moment last) (desk_of items) key dead).entries
 
   -- what a call of the store does, by the sweep and the choice that the code made
   pub record StoresAs (id : Id) (dead : Bool) (answer : Stored) (item : Option Item) (last2 : ℕ) (call : Call Stored) : Type 0 where
     pub answer_is : answer ≡ call.answer
     pub cache_is : cache_of_items (stored_items dead item key items) moment last2 ≡ call.cache
     pub desk_is : desk_of (stored_items dead item key items) ≡ call.desk
-    pub entries_are : swept_entries dead ++ entries.Did id (deeds.Store put answer) ∷ [] ≡ call.entries
+    pub entries_are : drop_of key dead ++ entries.Did id (deeds.Store put answer) ∷ [] ≡ call.entries
     pub named : (i : Item) → item ≡ Some i → i.key ≡ key
-
-  -- the sweep with its cache and its desk as lists make them
-  abbrev swept_call : Bool → Call Bool
-  swept_call dead = record {
-    entries = swept_entries dead;
-    cache = cache_of_items (swept_items dead key items) moment last;
-    desk = desk_of (swept_items dead key items);
-    answer = (swept (cache_of_items items moment last) (desk_of items) key dead).answer
-  }
-
-  swept_call_is : (dead : Bool) → dead ≡ is_dead_at (cache_of_items items moment last) (finite.get (items_of items) key) → sweep (cache_of_items items moment last) (desk_of items) key ≡ swept_call dead
-  swept_call_is dead is =
-      let sw = swept (cache_of_items items moment last) (desk_of items) key dead in
-      sweep_is items moment last key own numbered dead is
-      ∙ (λ j. record { entries = sw.entries; cache = swept_cache items moment last key own numbered dead j; desk = swept_desk items moment last key own numbered dead j; answer = sw.answer })
 
   -- the call behind the sweep, by the live item that the code found
   after_live : (id : Id) (dead : Bool) (live : Option machine.Item) (answer : Stored) (item : Option Item) (last2 : ℕ)
       → live ≡ finite.get (items_of (swept_items dead key items)) key
       → Chose (refusal g (numbers moment last) put live) last key (stored_item (numbers moment last) put put.mode live) answer item last2
-      → StoresAs id dead answer item last2 (store_after g (swept_call dead) id put)
+      → StoresAs id dead answer item last2 (store_after g (swept_call items moment last key item_max own kept dead) id put)
   after_live id dead live answer item last2 at chose =
       let r = refusal g (numbers moment last) put live in
       let new = stored_item (numbers moment last) put put.mode live in
-      let left = leaves items moment last key own numbered r new dead answer item last2 chose in
-      let step = λ (l : Option machine.Item). store_step g (swept_call dead).cache put l in
-      let answer_is : answer ≡ (store_after g (swept_call dead) id put).answer = left.answer_is ∙ ap (λ (l : Option machine.Item). (step l).0) at in
+      let left = leaves items moment last key item_max own kept r new dead answer item last2 chose in
+      let step = λ (l : Option machine.Item). store_step g (swept_call items moment last key item_max own kept dead).cache put l in
+      let answer_is : answer ≡ (store_after g (swept_call items moment last key item_max own kept dead) id put).answer = left.answer_is ∙ ap (λ (l : Option machine.Item). (step l).0) at in
       record {
         answer_is = answer_is;
         cache_is = left.cache_is ∙ ap (λ (l : Option machine.Item). (step l).1) at;
-        desk_is = left.desk_is ∙ ap (λ (l : Option machine.Item). stored_desk (refusal g (swept_call dead).cache put l) (swept_call dead).desk key) at;
-        entries_are = ap (λ (a : Stored). swept_entries dead ++ entries.Did id (deeds.Store put a) ∷ []) answer_is;
+        desk_is = left.desk_is ∙ ap (λ (l : Option machine.Item). stored_desk (refusal g (swept_call items moment last key item_max own kept dead).cache put l) (swept_call items moment last key item_max own kept dead).desk key) at;
+        entries_are = ap (λ (a : Stored). drop_of key dead ++ entries.Did id (deeds.Store put a) ∷ []) answer_is;
         named = left.named;
       }
 
@@ -169,6 +149,6 @@ module _ (g : Geometry) (items : List Item) (moment last : ℕ) (put : Put) (own
       → ◌≡◌ {A = Chosen} (answer, (option_map pair_of item, last2)) (choice_of g moment last put (items_behind live))
       → StoresAs id dead answer item last2 (store_call g (cache_of_items items moment last) (desk_of items) id put)
   stores_as id dead place live answer item last2 at dead_at live_at chose =
-      let is_dead = dead_is items moment last key own numbered dead place at dead_at in
-      subst (λ (s : Call Bool). StoresAs id dead answer item last2 (store_after g s id put)) (sym (swept_call_is dead is_dead))
-        (after_live id dead (items_behind live) answer item last2 (live_is items moment last key own numbered dead place live at live_at) chose)
+      let is_dead = dead_is items moment last key item_max own kept dead place at dead_at in
+      subst (λ (s : Call Bool). StoresAs id dead answer item last2 (store_after g s id put)) (sym (swept_call_is items moment last key item_max own kept dead is_dead))
+      (after_live id dead (items_behind live) answer item last2 (live_is items moment last key item_max own kept dead place live at live_at) chose)

@@ -30,7 +30,7 @@ swept c desk key dead =
       entries = entries.Dropped key drops.Dead ∷ [];
       cache = record c { items = finite.remove c.items key };
       desk = record { hot = keys_without key desk.hot };
-      answer = true
+      answer = true;
     }) else (record { entries = []; cache = c; desk = desk; answer = false })
 
 gone : (c : Cache) (key : List ℕ) → finite.get (finite.remove c.items key) key ≡ None

@@ -58,7 +58,7 @@ store_after g swept id put =
       entries = swept.entries ++ entries.Did id (deeds.Store put step.0) ∷ [];
       cache = step.1;
       desk = stored_desk (refusal g swept.cache put live) swept.desk put.key;
-      answer = step.0
+      answer = step.0;
     }
 
 abbrev pub store_call : Geometry → Cache → Desk → Id → Put → Call Stored

@@ -1,5 +1,5 @@
 -- The items of a store as it keeps them: a list, the one stored last in front.
-use Rattle.std.specs.Prelude.{◌≡◌, ℕ, ◌<◌, ◌≤◌, List, [], ◌∷◌, map, Option, None, Some, if◌then◌else◌}
+use Rattle.std.specs.Prelude.{◌≡◌, ℕ, ◌^◌, ◌<◌, ◌≤◌, List, [], ◌∷◌, length, map, Option, None, Some, IfSome, if◌then◌else◌}
 use Rattle.std.specs.Str.{bytes_eq}
 use Rattle.std.specs.FinMap as finite
 use Rattle.flash_machine.specs.Item as machine
@@ -26,10 +26,21 @@ abbrev pub HaveOwnKeys : List Item → Type 0
 HaveOwnKeys [] = Unit {0}
 HaveOwnKeys (i ∷ is) = (find_item i.key is ≡ None) × HaveOwnKeys is
 
--- each item has a CAS number, up to this one
-abbrev pub AreNumbered : ℕ → List Item → Type 0
-AreNumbered last [] = Unit {0}
-AreNumbered last (i ∷ is) = ((1 ≤ i.cas) × (i.cas ≤ last)) × AreNumbered last is
+-- a deadline, where there is one, is below 2^63
+abbrev pub HasDeadline : Item → Type 0
+HasDeadline i = IfSome i.deadline (λ moment. moment < 2 ^ 63)
+
+-- an item's CAS number is from 1 up to the last one, its deadline below 2^63, and its value no longer than it may be
+pub record IsKept (item_max last : ℕ) (i : Item) : Type 0 where
+  pub some : 1 ≤ i.cas
+  pub number : i.cas ≤ last
+  pub deadline : HasDeadline i
+  pub size : length i.value ≤ item_max
+
+-- each item is so
+abbrev pub AreKept : ℕ → ℕ → List Item → Type 0
+AreKept item_max last [] = Unit {0}
+AreKept item_max last (i ∷ is) = IsKept item_max last i × AreKept item_max last is
 
 -- an item as the cache has it: all of it is in memory
 abbrev pub item_of : Item → machine.Item
@@ -58,3 +69,8 @@ keys_of is = map (λ i. i.key) is
 -- the cache of a store without flushes
 abbrev pub cache_of_items : List Item → ℕ → ℕ → Cache
 cache_of_items is now last_cas = record { items = items_of is; now = now; last_cas = last_cas; flush_mark = 0; pending_flush = None }
+
+-- what a head needs of an item: a deadline below 2^63, and a value below 4 GiB
+pub record IsTold (i : Item) : Type 0 where
+  pub deadline : HasDeadline i
+  pub size : length i.value < 2 ^ 32

@@ -1,5 +1,6 @@
 -- Where an item stands in the list of a store.
-use Rattle.std.specs.Prelude.{◌≡◌, ℕ, ◌<◌, List, [], ◌∷◌, length, remove, slice_get, slice_set, Option, None, Some}
+use Rattle.std.specs.Prelude.{◌≡◌, ℕ, ℤ, ◌<◌, Bool, true, false, List, [], ◌∷◌, length, remove, slice_get, slice_set, Option, None, Some}
+use Rattle.flash_machine.specs.Looking.{renewed_to}
 use Rattle.flash_core.specs.declared.item.Item.{Item}
 use Rattle.flash_core.specs.Items.{find_item, without, replaced}
 
@@ -24,3 +25,17 @@ removed (Some at) items = remove items at
 abbrev pub in_front : Option Item → List Item → List Item
 in_front None items = items
 in_front (Some item) items = item ∷ items
+
+-- an item after it was found
+abbrev pub touched : Option ℤ → ℕ → Item → Item
+touched renew moment i = record i { deadline = renewed_to renew i.deadline moment; fetched = true; access = moment }
+
+abbrev pub touched_in : (Item → Item) → List Item → ℕ → Option Item → List Item
+touched_in change items at None = items
+touched_in change items at (Some i) = slice_set items at (change i)
+
+-- the items without the one at a place where it is dead, and else with it as it is after it was found
+abbrev pub touched_at : Option ℤ → ℕ → Option ℕ → Bool → List Item → List Item
+touched_at renew moment None dead items = items
+touched_at renew moment (Some at) true items = remove items at
+touched_at renew moment (Some at) false items = touched_in (touched renew moment) items at (slice_get items at)

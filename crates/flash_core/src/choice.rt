@@ -1,9 +1,9 @@
 // What a store chooses to do with a value, before it changes anything.
-ghost use Rattle.std.specs.Prelude.{◌≡◌, ℕ, ◌+◌, ◌<◌, ◌≤◌, ◌^◌, ◌++◌, IsNone, IfOk, length, nat_lt};
-ghost use Rattle.std.specs.Option.{option_copied, option_to_list};
+ghost use Rattle.std.specs.Prelude.{◌≡◌, ℕ, ◌+◌, ◌<◌, ◌≤◌, ◌^◌, ◌++◌, IsNone, IfSome, IfOk, length, nat_lt};
+ghost use Rattle.std.specs.Option.{ForSome, option_copied, option_to_list};
 ghost use Rattle.flash_machine.specs.Moments.{deadline};
 ghost use Rattle.flash_machine.specs.Storing.{mode_fails, compare_refusal, stored_value, stored_item, refusal};
-ghost use Rattle.flash_core.specs.Items.{AreNumbered, item_of};
+ghost use Rattle.flash_core.specs.Items.{AreKept, HasDeadline, item_of};
 ghost use Rattle.flash_core.specs.Choice.{choice_of, chosen_by, numbers, items_behind};
 
 use crate::item::Item;
@@ -34,10 +34,11 @@ pub fn choose(
     put: &Put,
     live: Option<&Item>,
 ) -> Result<Choice, AllocError>
-    requires { now < 2 ^ 63 }
+    requires moment { now ≤ 2 ^ 62 }
+    requires deadline { ForSome (option_copied live) HasDeadline }
     ensures chosen { IfOk result (λ choice. chosen_by choice ≡ choice_of geometry.now now last_cas put.now (items_behind (option_copied live.entry))) }
     ensures rises { IfOk result (λ choice. last_cas ≤ choice.last_cas) }
-    ensures numbered { IfOk result (λ choice. AreNumbered choice.last_cas (option_to_list choice.item)) }
+    ensures kept { IfOk result (λ choice. AreKept geometry.now.item_max choice.last_cas (option_to_list choice.item)) }
 {
     match refusal_of(geometry, last_cas, put, live) {
         Some(answer) => Ok(Choice {
@@ -61,6 +62,7 @@ pub fn choose(
 fn refusal_of(geometry: &Geometry, last_cas: u64, put: &Put, live: Option<&Item>) -> Option<Stored>
     ensures exact { (now : ℕ) → result ≡ refusal geometry.now (numbers now last_cas) put.now (items_behind (option_copied live.entry)) }
     ensures room { IsNone result → last_cas < 2 ^ 63 }
+    ensures fits { IsNone result → length (stored_value put.now put.now.mode (items_behind (option_copied live.entry))) ≤ geometry.now.item_max }
 {
     if is_refused(put.mode, live) {
         return Some(Stored::NotStored);
@@ -131,9 +133,12 @@ fn new_item(
     put: &Put,
     live: Option<&Item>,
 ) -> Result<Item, AllocError>
-    requires { now < 2 ^ 63 }
-    ensures { IfOk result (λ item. (item.key ≡ put.now.key) × (item.cas ≡ cas)
+    requires moment { now ≤ 2 ^ 62 }
+    requires deadline { ForSome (option_copied live) HasDeadline }
+    ensures item { IfOk result (λ item. (item.key ≡ put.now.key) × (item.cas ≡ cas)
         × ((last_cas : ℕ) → cas ≡ last_cas + 1 → item_of item ≡ stored_item (numbers now last_cas) put.now put.now.mode (items_behind (option_copied live.entry)))) }
+    ensures deadline { IfOk result HasDeadline }
+    ensures value { IfOk result (λ item. item.value ≡ stored_value put.now put.now.mode (items_behind (option_copied live.entry))) }
 {
     let (front, back) = joined(put, live);
     let value = concatenated(alloc, front, back)?;
@@ -161,8 +166,10 @@ fn concatenated(alloc: Global, front: &[u8], back: &[u8]) -> Result<Blob, AllocE
 // The flags and the deadline of the item that is stored: those of the item that a value is joined to, and
 // else those of the command.
 fn kept(now: u64, put: &Put, live: Option<&Item>) -> (u32, Option<u64>)
-    requires { now < 2 ^ 63 }
-    ensures { (last_cas : ℕ) → let item = stored_item (numbers now last_cas) put.now put.now.mode (items_behind (option_copied live.entry)) in
+    requires moment { now ≤ 2 ^ 62 }
+    requires deadline { ForSome (option_copied live) HasDeadline }
+    ensures deadline { IfSome result.1 (λ moment. moment < 2 ^ 63) }
+    ensures kept { (last_cas : ℕ) → let item = stored_item (numbers now last_cas) put.now put.now.mode (items_behind (option_copied live.entry)) in
         (result.0 ≡ item.flags) × (result.1 ≡ item.deadline) }
 {
     match (put.mode, live) {
@@ -173,8 +180,9 @@ fn kept(now: u64, put: &Put, live: Option<&Item>) -> (u32, Option<u64>)
 
 // The deadline of an exptime at this moment (memcached's doc/protocol.txt, "Expiration times").
 pub fn deadline_of(exptime: i64, now: u64) -> Option<u64>
-    requires { now < 2 ^ 63 }
-    ensures { result ≡ deadline exptime now }
+    requires { now ≤ 2 ^ 62 }
+    ensures exact { result ≡ deadline exptime now }
+    ensures below { IfSome result (λ moment. moment < 2 ^ 63) }
 {
     let Ok(seconds) = u64::try_from(exptime) else {
         return Some(0);

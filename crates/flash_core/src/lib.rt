@@ -2,9 +2,11 @@
 #![tactic(auto)]
 
 mod choice;
+mod clock;
 mod found;
 mod item;
 mod items;
+mod look;
 mod state;
 mod store;
 

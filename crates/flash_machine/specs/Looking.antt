@@ -20,14 +20,14 @@ abbrev pub seen_of : Option Item → Seen
 seen_of None = seen.Nothing
 seen_of (Some item) = seen_at item.cas item.label
 
--- the deadline that an item has after the lookup
-abbrev pub renewed : Cache → Option ℤ → Item → Option ℕ
-renewed c None item = item.deadline
-renewed c (Some exptime) item = deadline exptime c.now
+-- the deadline that an item has after a lookup at this moment
+abbrev pub renewed_to : Option ℤ → Option ℕ → ℕ → Option ℕ
+renewed_to None before now = before
+renewed_to (Some exptime) before now = deadline exptime now
 
 -- the item after it was found
 abbrev pub fetched_item : Cache → Look → Item → Item
-fetched_item c look item = record item { deadline = renewed c look.renew item; fetched = true; access = c.now }
+fetched_item c look item = record item { deadline = renewed_to look.renew item.deadline c.now; fetched = true; access = c.now }
 
 -- the cache after the lookup
 abbrev pub look_next : Cache → List ℕ → Look → Option Item → Cache
@@ -45,7 +45,7 @@ head_of_item c look item = record {
   flags = item.flags;
   cas = item.cas;
   size = length item.value;
-  left = left_to (renewed c look.renew item) c.now;
+  left = left_to (renewed_to look.renew item.deadline c.now) c.now;
   before = item.fetched;
   idle = c.now - item.access
 }

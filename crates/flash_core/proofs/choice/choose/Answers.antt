@@ -22,7 +22,7 @@ returns-in_ok-item-in-None-clause-chosen c =
     let now = c.args.now in
     let last = c.args.last_cas in
     let put = c.args.put.now in
-    let made = c.in_ok-item-in-None.ensures in
+    let made = c.in_ok-item-in-None.ensures.item in
     let pair : List ℕ × machine.Item = (put.key, stored_item (numbers now last) put put.mode live) in
     let stored : chosen_by record { answer = answers.Stored (last + 1); item = Some c.in_ok-item-in-None.item; last_cas = last + 1 } ≡ chosen None last pair = λ i. (answers.Stored (last + 1), (Some (made.0 i, made.2 last refl i), last + 1)) in
     stored ∙ ap (λ (r : Option Stored). chosen r last pair) (sym c.in-None.is ∙ c.refusal_of.ensures.exact now)

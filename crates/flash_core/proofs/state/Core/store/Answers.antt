@@ -10,8 +10,16 @@ use Rattle.flash_core.specs.Store.{Store}
 use Rattle.flash_core.specs.Items.{cache_of_items, keys_of}
 use Rattle.flash_core.specs.Calls.{store_call}
 use Rattle.flash_core.specs.Sound.{IsNewTold}
+use Rattle.flash_core.proofs.Lists.{live_kept}
 use Rattle.flash_core.proofs.StoreDone.{IsStored, is_stored}
 use Rattle.flash_core.proofs.state.Core.store.Goals as goal
+
+pub choose-requires-clause-deadline : goal.choose-requires-clause-deadline
+choose-requires-clause-deadline g c =
+    let f = c.self.inside in
+    let place = c.place_of-place.result in
+    λ i here. (live_kept f.items.items f.moment f.last_cas c.args.put.now.key f.geometry.item_max c.self.invariant.own_keys c.self.invariant.kept c.dead_at-dead.result place (option_copied c.live_at-live.result)
+    (subst (λ (l : List Item). IsPlace c.args.put.now.key l place) c.deref.ensures.value c.place_of-place.ensures) (search rules) i here).deadline
 
 -- the store as the call leaves it
 view_now : (g : _) (c : goal.After-self-1 g) → Store
@@ -20,12 +28,12 @@ view_now g c = record {
   told = g.J.Journal.told c.note_behind.new.journal;
   ready = g.J.Journal.ready c.note_behind.new.journal;
   cache = cache_of_items c.put_in_front.new.items.items c.self.inside.moment c.in_ok-choice.choice.last_cas;
-  desk = record { hot = keys_of c.put_in_front.new.items.items }
+  desk = record { hot = keys_of c.put_in_front.new.items.items };
 }
 
 -- what the parts of the call leave
 done_at : (g : _) (c : goal.After-self-1 g) → IsStored c.self.inside.geometry c.self.inside.items.items c.self.inside.moment c.self.inside.last_cas (g.J.Journal.told c.self.inside.journal) c.self.invariant c.args.id c.args.put.now
-      c.in_ok-choice.choice c.put_in_front.new.items.items (g.J.Journal.told c.note_behind.new.journal)
+    c.in_ok-choice.choice c.put_in_front.new.items.items (g.J.Journal.told c.note_behind.new.journal)
 done_at g c =
     let f = c.self.inside in
     let told = g.J.Journal.told f.journal in
@@ -33,15 +41,15 @@ done_at g c =
     let place = c.place_of-place.result in
     let new : IsNewTold told c.args.id = subst (λ (s : Store). IsNewTold s.told c.args.id) (sym c.self.view_is) c.requires in
     is_stored f.geometry f.items.items f.moment f.last_cas told c.self.invariant c.args.id put
-      place c.dead_at-dead.result (option_copied c.live_at-live.result) c.in_ok-choice.choice c.put_in_front.new.items.items (g.J.Journal.told c.note_behind.new.journal)
-      new
-      (subst (λ (l : List Item). IsPlace put.key l place) c.deref.ensures.value c.place_of-place.ensures)
-      (c.dead_at-dead.ensures ∙ ap (λ (l : List Item). option_map_or (λ item. is_reached item.deadline f.moment) (option_and_then (slice_get l) place) _) c.deref-2.ensures.value)
-      (search rules)
-      (c.in_ok-choice.ensures.chosen)
-      c.in_ok-choice.ensures.rises c.in_ok-choice.ensures.numbered
-      (search rules)
-      (search rules)
+    place c.dead_at-dead.result (option_copied c.live_at-live.result) c.in_ok-choice.choice c.put_in_front.new.items.items (g.J.Journal.told c.note_behind.new.journal)
+    new
+    (subst (λ (l : List Item). IsPlace put.key l place) c.deref.ensures.value c.place_of-place.ensures)
+    (c.dead_at-dead.ensures ∙ ap (λ (l : List Item). option_map_or (λ item. is_reached item.deadline f.moment) (option_and_then (slice_get l) place) _) c.deref-2.ensures.value)
+    (search rules)
+    (c.in_ok-choice.ensures.chosen)
+    c.in_ok-choice.ensures.rises c.in_ok-choice.ensures.kept
+    (search rules)
+    (search rules)
 
 pub invariant_of-self-2 : goal.invariant_of-self-2
 invariant_of-self-2 g c = (done_at g c).sound
@@ -53,7 +61,7 @@ returns-clause-ok g c =
     let call = λ (s : Store). store_call s.geometry s.cache s.desk c.args.id c.args.put.now in
     let ready = g.J.Journal.ready c.note_behind.new.journal in
     subst (λ (s : Store). ◌≡◌ {A = Store} (view_now g c) (record s { told = behind (call s).entries s.told; ready = ready; cache = (call s).cache; desk = (call s).desk })) c.self.view_is
-      (λ j. record { geometry = c.self.inside.geometry; told = done.noted j; ready = ready; cache = done.cache j; desk = done.desk j })
+    (λ j. record { geometry = c.self.inside.geometry; told = done.noted j; ready = ready; cache = done.cache j; desk = done.desk j })
 
 pub returns-clause-answer : goal.returns-clause-answer
 returns-clause-answer g c =

@@ -1,0 +1,79 @@
+use Rattle.std.proofs.Common.{◌≡◌, ◌∷◌, [], ◌++◌, ◌≤◌, List, Option, sym, ◌∙◌, ap, subst, arith, rules}
+use Rattle.std.specs.Prelude.{slice_get}
+use Rattle.std.specs.Option.{option_map_or, option_and_then, option_copied}
+use Rattle.flash_names.specs.Told.{behind}
+use Rattle.flash_machine.specs.Moments.{is_reached}
+use Rattle.flash_core.specs.declared.item.Item.{Item}
+use Rattle.flash_core.specs.Places.{IsPlace}
+use Rattle.flash_core.specs.Store.{Store}
+use Rattle.flash_core.specs.Items.{HasDeadline, cache_of_items, keys_of}
+use Rattle.flash_core.specs.Calls.{look_call}
+use Rattle.flash_core.specs.Sound.{IsNewTold}
+use Rattle.flash_core.proofs.Lists.{found_at, live_kept}
+use Rattle.flash_core.proofs.Kept.{kept_found}
+use Rattle.flash_core.proofs.Looked.{IsLooked, is_looked}
+use Rattle.flash_core.proofs.state.Core.look.Goals as goal
+
+pub found_at-requires-clause-kept : goal.found_at-requires-clause-kept
+found_at-requires-clause-kept g c =
+    let f = c.self.inside in
+    let place = c.place_of-place.result in
+    λ i here.
+      let one = live_kept f.items.items f.moment f.last_cas c.args.key.now f.geometry.item_max c.self.invariant.own_keys c.self.invariant.kept c.dead_at-dead.result place (option_copied c.live_at-live.result)
+        (subst (λ (l : List Item). IsPlace c.args.key.now l place) c.deref.ensures.value c.place_of-place.ensures) (search rules) i here in
+      record { deadline = one.deadline; size = omega (arith, one.size, c.self.invariant.passes.item_max) }
+
+pub touch-requires-clause-deadline : goal.touch-requires-clause-deadline
+touch-requires-clause-deadline g c =
+    let f = c.self.inside in
+    let key = c.args.key.now in
+    let place = c.place_of-place.result in
+    λ i here.
+      (kept_found f.geometry.item_max f.last_cas key f.items.items i c.self.invariant.kept
+        (sym (found_at key f.items.items place (subst (λ (l : List Item). IsPlace key l place) c.deref.ensures.value c.place_of-place.ensures)) ∙ here)).deadline
+
+-- the store as the call leaves it
+view_now : (g : _) (c : goal.After-touch g) → Store
+view_now g c = record {
+  geometry = c.self.inside.geometry;
+  told = g.J.Journal.told c.note_behind.new.journal;
+  ready = g.J.Journal.ready c.note_behind.new.journal;
+  cache = cache_of_items c.touch.new.items.items c.self.inside.moment c.self.inside.last_cas;
+  desk = record { hot = keys_of c.touch.new.items.items }
+}
+
+-- what the parts of the call leave
+done_at : (g : _) (c : goal.After-touch g) → IsLooked c.self.inside.geometry c.self.inside.items.items c.self.inside.moment c.self.inside.last_cas (g.J.Journal.told c.self.inside.journal) c.self.invariant c.args.id c.args.key.now c.args.look
+      c.in_ok-found.found c.touch.new.items.items (g.J.Journal.told c.note_behind.new.journal)
+done_at g c =
+    let f = c.self.inside in
+    let told = g.J.Journal.told f.journal in
+    let key = c.args.key.now in
+    let place = c.place_of-place.result in
+    let new : IsNewTold told c.args.id = subst (λ (s : Store). IsNewTold s.told c.args.id) (sym c.self.view_is) c.requires in
+    is_looked f.geometry f.items.items f.moment f.last_cas told c.self.invariant c.args.id key c.args.look
+      place c.dead_at-dead.result (option_copied c.live_at-live.result) c.in_ok-found.found c.touch.new.items.items (g.J.Journal.told c.note_behind.new.journal)
+      new
+      (subst (λ (l : List Item). IsPlace key l place) c.deref.ensures.value c.place_of-place.ensures)
+      (c.dead_at-dead.ensures ∙ ap (λ (l : List Item). option_map_or (λ item. is_reached item.deadline f.moment) (option_and_then (slice_get l) place) _) c.deref-2.ensures.value)
+      (search rules)
+      c.in_ok-found.ensures
+      c.touch.ensures.items
+      c.touch.ensures.deadline
+      (search rules)
+
+pub invariant_of-self-2 : goal.invariant_of-self-2
+invariant_of-self-2 g c = (done_at g c).sound
+
+pub returns-clause-ok : goal.returns-clause-ok
+unfolding view_now
+returns-clause-ok g c =
+    let done = done_at g c in
+    let call = λ (s : Store). look_call s.cache s.desk c.args.id c.args.key.now c.args.look in
+    let ready = g.J.Journal.ready c.note_behind.new.journal in
+    subst (λ (s : Store). ◌≡◌ {A = Store} (view_now g c) (record s { told = behind (call s).entries s.told; ready = ready; cache = (call s).cache; desk = (call s).desk })) c.self.view_is
+      (λ j. record { geometry = c.self.inside.geometry; told = done.noted j; ready = ready; cache = done.cache j; desk = done.desk j })
+
+pub returns-clause-answer : goal.returns-clause-answer
+returns-clause-answer g c =
+    subst (λ (s : Store). c.in_ok-found.found ≡ (look_call s.cache s.desk c.args.id c.args.key.now c.args.look).answer) c.self.view_is (done_at g c).answer

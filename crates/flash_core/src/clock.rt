@@ -1,0 +1,30 @@
+ghost use Rattle.std.specs.Prelude.{◌≡◌, IfOk, OnOk, OnErr, IsOk, IsTrue};
+ghost use Rattle.flash_core.specs.Calls.{clock_call};
+ghost use Rattle.flash_core.specs.Store.{Becomes, Stays};
+
+use crate::state::Core;
+use flash_entry::{Journal, Note};
+use std::alloc::AllocError;
+
+// The last moment that a clock may give, in Unix seconds.
+const LAST_MOMENT: u64 = 1 << 62;
+
+impl<J: Journal> Core<J> {
+    /// Sets the moment to a clock's reading, in Unix seconds, where it is above the moment. A reading above
+    /// 2^62 counts as 2^62. Answers whether it rose. Want of memory comes only where the journal isn't ready,
+    /// and changes nothing.
+    pub fn clock(&mut self, reading: u64) -> Result<bool, AllocError>
+        ensures ok { OnOk result (Becomes self.old (clock_call self.old.cache self.old.desk reading) self.new) }
+        ensures answer { IfOk result (λ answer. answer ≡ (clock_call self.old.cache self.old.desk reading).answer) }
+        ensures err { OnErr result (Stays self.old self.new) }
+        ensures ready { IsTrue self.old.ready → IsOk result × IsTrue self.new.ready }
+    {
+        let moment = reading.min(LAST_MOMENT);
+        if moment <= self.moment {
+            return Ok(false);
+        }
+        self.journal.note(Note::Clock(moment), None, None, None)?;
+        self.moment = moment;
+        Ok(true)
+    }
+}
