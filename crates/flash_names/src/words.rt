@@ -1,4 +1,4 @@
-ghost use Rattle.std.specs.Prelude.{◌≡◌, ◌^◌, [], ◌∷◌};
+ghost use Rattle.std.specs.Prelude.{◌≡◌, ◌+◌, ◌^◌, [], ◌∷◌, length, IfSome};
 ghost use Rattle.std.specs.Option.{option_copied, option_map};
 ghost use Rattle.flash_names.specs.Cut.{cut_at};
 ghost use Rattle.flash_names.specs.Words.{words, words_if};
@@ -19,7 +19,8 @@ pub fn split_word(line: &[u8]) -> (&[u8], Option<&[u8]>)
 
 /// What stands in front of the first such byte and what stands behind it, where there is one.
 pub fn cut_at_byte(byte: u8, bytes: &[u8]) -> Option<(&[u8], &[u8])>
-    ensures { option_map (λ parts. (parts.0.now, parts.1.now)) result ≡ cut_at byte bytes.now }
+    ensures parts { option_map (λ parts. (parts.0.now, parts.1.now)) result ≡ cut_at byte bytes.now }
+    ensures lengths { IfSome result (λ parts. length parts.0.now + 1 + length parts.1.now ≡ length bytes.now) }
 {
     match memchr(byte, bytes) {
         None => None,
