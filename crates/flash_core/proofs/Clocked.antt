@@ -13,7 +13,7 @@ pub clock_sound : (g : Geometry) (items : List Item) (now moment last : ℕ) (to
     → told2 ≡ behind (entries.Clock moment ∷ []) told → IsSound g items moment last told2
 clock_sound g items now moment last told told2 was above within noted =
     let run = told_goes_on g (cache_of_items items now last) (cache_of_items items moment last) told (entries.Clock moment ∷ []) was.run
-      (λ h tells. record { legal = (record { above = above; within = within }, tt); makes = refl }) in
+    (λ h tells. record { legal = (record { above = above; within = within }, tt); makes = refl }) in
     record {
       passes = was.passes;
       own_keys = was.own_keys;

@@ -12,3 +12,6 @@ mod store;
 
 pub use found::Found;
 pub use state::{Core, OpenError, OpenWhy};
+
+#[cfg(test)]
+mod tests;

@@ -117,13 +117,7 @@ fn seen_at(live: Option<&Item>) -> Seen
 }
 
 // Drops the item at the place where it is dead, and else marks it as found.
-fn touch(
-    items: &mut Vec<Item>,
-    place: Option<usize>,
-    dead: bool,
-    renew: Option<i64>,
-    moment: u64,
-)
+fn touch(items: &mut Vec<Item>, place: Option<usize>, dead: bool, renew: Option<i64>, moment: u64)
     requires place { ForSome place (λ at. at < length items.old.items) }
     requires moment { moment ≤ 2 ^ 62 }
     requires deadline { ForSome (option_and_then (slice_get items.old.items) place) HasDeadline }

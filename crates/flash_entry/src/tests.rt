@@ -1,0 +1,291 @@
+use super::*;
+use flash_names::{Blob, Geometry, Id, Key, Label, Place};
+use std::alloc::{AllocError, Global};
+use std::process::Abort;
+use std::test::Fail;
+
+const ID: Id = Id { pass: 3, seq: 7 };
+
+const LABEL: Label = Label {
+    page: 2,
+    version: 9,
+};
+
+const PLACE: Place = Place {
+    label: LABEL,
+    offset: 256,
+    length: 133,
+};
+
+fn key() -> Result<Key, AllocError> {
+    Key::from_bytes(b"a").ok_or(AllocError)
+}
+
+fn put(alloc: Global) -> Result<Put, AllocError> {
+    Ok(Put {
+        key: key()?,
+        mode: Mode::Set,
+        flags: 1,
+        exptime: -1,
+        compare: Some(4),
+        value: Blob::from_slice(alloc, b"hi\xff")?,
+    })
+}
+
+fn arith() -> Result<Arith, AllocError> {
+    Ok(Arith {
+        key: key()?,
+        down: true,
+        delta: 5,
+        compare: None,
+        renew: Some(-3),
+        create: Some(Create {
+            exptime: 60,
+            start: 18,
+        }),
+    })
+}
+
+// Whether the entry's line is this one.
+fn check(rt: &impl Abort, alloc: Global, entry: &Entry, line: &str) -> Result<(), AllocError> {
+    let printed = print_entry(alloc, entry)?;
+    assert_eq!(rt; printed.bytes(), line.as_bytes());
+    Ok(())
+}
+
+#[test]
+fn prints_steps(rt: HostRuntime) -> Result<(), Fail> {
+    let alloc = rt.alloc();
+    let summed = Summed {
+        number: 1,
+        cas: 2,
+        left: -1,
+    };
+    let tally = Tally {
+        items: 1,
+        load: 2,
+        last_cas: 3,
+        now: 4,
+        free_pages: 5,
+    };
+    let store = Done::Store(put(alloc)?, Stored::Stored(1));
+    let delete = Done::Delete(key()?, None, Gone::NotFound);
+    let sum = Done::Sum(arith()?, Sum::Created(summed));
+    let touch = Done::Touch(key()?, 10, Touched::Touched);
+    check(&rt, alloc, &Entry::Clock(5), "clock 5\n")?;
+    check(
+        &rt,
+        alloc,
+        &Entry::Did(ID, store),
+        "did 3 7 set 61 1 -1 4 6869ff = stored 1\n",
+    )?;
+    check(
+        &rt,
+        alloc,
+        &Entry::Did(ID, delete),
+        "did 3 7 delete 61 - = not-found\n",
+    )?;
+    check(
+        &rt,
+        alloc,
+        &Entry::Did(ID, sum),
+        "did 3 7 down 61 5 - -3 60 18 = created 1 2 -1\n",
+    )?;
+    check(
+        &rt,
+        alloc,
+        &Entry::Did(ID, touch),
+        "did 3 7 touch 61 10 = touched\n",
+    )?;
+    check(
+        &rt,
+        alloc,
+        &Entry::Did(ID, Done::Flush(0)),
+        "did 3 7 flush 0 = ok\n",
+    )?;
+    check(
+        &rt,
+        alloc,
+        &Entry::Did(ID, Done::Stats(tally)),
+        "did 3 7 stats = 1 2 3 4 5\n",
+    )?;
+    Ok(())
+}
+
+#[test]
+fn prints_lookups(rt: HostRuntime) -> Result<(), Fail> {
+    let alloc = rt.alloc();
+    let look = Look {
+        value: true,
+        renew: None,
+    };
+    let renewing = Look {
+        value: false,
+        renew: Some(9),
+    };
+    let here = Entry::Looked(ID, key()?, look, Seen::Here(1));
+    let away = Entry::Looked(ID, key()?, renewing, Seen::Away(1, LABEL));
+    let bytes = Blob::from_slice(alloc, b"\x00\x0f")?;
+    let empty = Blob::from_slice(alloc, b"")?;
+    check(&rt, alloc, &here, "looked 3 7 61 v - = 1 here\n")?;
+    check(&rt, alloc, &away, "looked 3 7 61 h 9 = 1 2 9\n")?;
+    check(
+        &rt,
+        alloc,
+        &Entry::FromBuffer(ID, PLACE),
+        "buffered 3 7 2 9 256 133\n",
+    )?;
+    check(
+        &rt,
+        alloc,
+        &Entry::ReadBegan(ID, PLACE, 0),
+        "read-began 3 7 2 9 256 133 0\n",
+    )?;
+    check(
+        &rt,
+        alloc,
+        &Entry::ReadEnded(ID, Some(bytes)),
+        "read-ended 3 7 000f\n",
+    )?;
+    check(
+        &rt,
+        alloc,
+        &Entry::ReadEnded(ID, None),
+        "read-ended 3 7 failed\n",
+    )?;
+    check(
+        &rt,
+        alloc,
+        &Entry::Closed(ID, Close::Hit(1, 2, empty)),
+        "closed 3 7 hit 1 2 -\n",
+    )?;
+    check(
+        &rt,
+        alloc,
+        &Entry::Closed(ID, Close::Lost(Cause::Damaged)),
+        "closed 3 7 lost damaged\n",
+    )?;
+    Ok(())
+}
+
+#[test]
+fn prints_items_and_pages(rt: HostRuntime) -> Result<(), Fail> {
+    let alloc = rt.alloc();
+    let bytes = Blob::from_slice(alloc, b"\x00\x0f")?;
+    check(
+        &rt,
+        alloc,
+        &Entry::Moved(key()?, 2, LABEL),
+        "moved 61 2 2 9\n",
+    )?;
+    check(&rt, alloc, &Entry::Recached(key()?, 2), "recached 61 2\n")?;
+    check(
+        &rt,
+        alloc,
+        &Entry::Dropped(key()?, DropCause::Evict),
+        "dropped 61 evict\n",
+    )?;
+    check(
+        &rt,
+        alloc,
+        &Entry::WriteBegan(PLACE),
+        "write-began 2 9 256 133\n",
+    )?;
+    check(
+        &rt,
+        alloc,
+        &Entry::WriteEnded(PLACE, Some(bytes)),
+        "write-ended 2 9 256 133 000f\n",
+    )?;
+    check(&rt, alloc, &Entry::Opened(LABEL), "opened 2 9\n")?;
+    check(
+        &rt,
+        alloc,
+        &Entry::Ended(LABEL, EndCause::Compacted),
+        "ended 2 9 compacted\n",
+    )?;
+    check(&rt, alloc, &Entry::Freed(LABEL), "freed 2 9\n")?;
+    Ok(())
+}
+
+#[test]
+fn reads_heads(rt: HostRuntime) -> Result<(), Fail> {
+    let line = "store 4096 64 1024 3 512 256 3 1 0 80 0";
+    let geometry = Geometry {
+        memory: 4096,
+        item_size: 64,
+        item_max: 1024,
+        pages: 3,
+        page_size: 512,
+        buffer_size: 256,
+        buffers: 3,
+        compact_under: 1,
+        drop_under: 0,
+        max_frag: 80,
+        recache: 0,
+    };
+    assert_eq!(rt; read_head(line.as_bytes()), Ok(geometry));
+    let printed = print_head(rt.alloc(), &geometry)?;
+    assert_eq!(rt;
+        printed.bytes(),
+        b"store 4096 64 1024 3 512 256 3 1 0 80 0\n".as_slice()
+    );
+    let faults = [
+        ("", HeadFault::BadWord),
+        (
+            "stores 4096 64 1024 3 512 256 3 1 0 80 0",
+            HeadFault::BadWord,
+        ),
+        ("store 4096 64 1024 3 512 256 3 1 0 80", HeadFault::BadWord),
+        (
+            "store 4096 64 1024 3 512 256 3 1 0 80 0 ",
+            HeadFault::BadWord,
+        ),
+        (
+            "store 4096 64 1024 3 512 256 3 1 0 80 x",
+            HeadFault::BadNumber,
+        ),
+        (
+            "store 4096 64 1024 3 512 256 3 1  80 0",
+            HeadFault::BadNumber,
+        ),
+        (
+            "store 4096 4294967296 1024 3 512 256 3 1 0 80 0",
+            HeadFault::BadNumber,
+        ),
+        (
+            "store 4096 63 1024 2 512 256 3 1 0 80 0",
+            HeadFault::Geometry(1),
+        ),
+        (
+            "store 4096 64 1024 3 512 256 3 1 0 101 0",
+            HeadFault::Geometry(10),
+        ),
+    ];
+    for (bad, fault) in faults {
+        assert_eq!(rt; read_head(bad.as_bytes()), Err(fault), "{bad}");
+    }
+    Ok(())
+}
+
+#[test]
+fn keeps_and_counts(rt: HostRuntime) -> Result<(), Fail> {
+    let alloc = rt.alloc();
+    let stored = put(alloc)?;
+    let did = Note::Did(ID, DoneNote::Store(&stored, Stored::Exists));
+    let dropped = Note::Dropped(&stored.key, DropCause::Dead);
+    let mut kept = Kept::new(alloc);
+    kept.note(dropped, Some(did), None, Some(Note::Clock(1)))?;
+    let mut text = Vec::new(alloc);
+    for entry in kept.entries() {
+        text.extend_from_slice(print_entry(alloc, entry)?.bytes())?;
+    }
+    assert_eq!(rt;
+        text.as_slice(),
+        b"dropped 61 dead\ndid 3 7 set 61 1 -1 4 6869ff = exists\nclock 1\n".as_slice()
+    );
+    let mut counted = Counted::new();
+    counted.note(dropped, Some(did), None, Some(Note::Clock(1)))?;
+    assert_eq!(rt; counted.entries(), 3);
+    Ok(())
+}

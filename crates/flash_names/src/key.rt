@@ -1,5 +1,4 @@
 ghost use Rattle.std.specs.Prelude.{◌≡◌, ℕ, ◌≤◌, ◌↔◌, List, length, IsSome, IfSome};
-ghost use Rattle.flash_names.specs.declared.key.TheConstants.{MAX_KEY_LEN};
 
 use arrayvec::ArrayVec;
 use std::marker::Model;
@@ -18,13 +17,13 @@ impl Model for Key {
 
     ghost view = { λ k. k.bytes.items };
 
-    ghost invariant = { λ k. (1 ≤ length k.bytes.items) × (length k.bytes.items ≤ MAX_KEY_LEN) };
+    ghost invariant = { λ k. (1 ≤ length k.bytes.items) × (length k.bytes.items ≤ 250) };
 }
 
 impl Key {
     /// The key of these bytes, or `None` where there are none or more than 250 of them.
     pub fn from_bytes(bytes: &[u8]) -> Option<Key>
-        ensures fits { IsSome result ↔ ((1 ≤ length bytes.now) × (length bytes.now ≤ MAX_KEY_LEN)) }
+        ensures fits { IsSome result ↔ ((1 ≤ length bytes.now) × (length bytes.now ≤ 250)) }
         ensures same { IfSome result (λ key. key ≡ bytes.now) }
     {
         if bytes.is_empty() {
@@ -39,7 +38,7 @@ impl Key {
     pub fn bytes(&self) -> &[u8]
         ensures same { result.now ≡ self.now }
         ensures some { 1 ≤ length self.now }
-        ensures fits { length self.now ≤ MAX_KEY_LEN }
+        ensures fits { length self.now ≤ 250 }
     {
         self.bytes.as_slice()
     }

@@ -19,9 +19,9 @@ found_at-requires-clause-kept g c =
     let f = c.self.inside in
     let place = c.place_of-place.result in
     λ i here.
-      let one = live_kept f.items.items f.moment f.last_cas c.args.key.now f.geometry.item_max c.self.invariant.own_keys c.self.invariant.kept c.dead_at-dead.result place (option_copied c.live_at-live.result)
-        (subst (λ (l : List Item). IsPlace c.args.key.now l place) c.deref.ensures.value c.place_of-place.ensures) (search rules) i here in
-      record { deadline = one.deadline; size = omega (arith, one.size, c.self.invariant.passes.item_max) }
+    let one = live_kept f.items.items f.moment f.last_cas c.args.key.now f.geometry.item_max c.self.invariant.own_keys c.self.invariant.kept c.dead_at-dead.result place (option_copied c.live_at-live.result)
+    (subst (λ (l : List Item). IsPlace c.args.key.now l place) c.deref.ensures.value c.place_of-place.ensures) (search rules) i here in
+    record { deadline = one.deadline; size = omega (arith, one.size, c.self.invariant.passes.item_max) }
 
 pub touch-requires-clause-deadline : goal.touch-requires-clause-deadline
 touch-requires-clause-deadline g c =
@@ -29,8 +29,8 @@ touch-requires-clause-deadline g c =
     let key = c.args.key.now in
     let place = c.place_of-place.result in
     λ i here.
-      (kept_found f.geometry.item_max f.last_cas key f.items.items i c.self.invariant.kept
-        (sym (found_at key f.items.items place (subst (λ (l : List Item). IsPlace key l place) c.deref.ensures.value c.place_of-place.ensures)) ∙ here)).deadline
+    (kept_found f.geometry.item_max f.last_cas key f.items.items i c.self.invariant.kept
+    (sym (found_at key f.items.items place (subst (λ (l : List Item). IsPlace key l place) c.deref.ensures.value c.place_of-place.ensures)) ∙ here)).deadline
 
 -- the store as the call leaves it
 view_now : (g : _) (c : goal.After-touch g) → Store
@@ -39,12 +39,12 @@ view_now g c = record {
   told = g.J.Journal.told c.note_behind.new.journal;
   ready = g.J.Journal.ready c.note_behind.new.journal;
   cache = cache_of_items c.touch.new.items.items c.self.inside.moment c.self.inside.last_cas;
-  desk = record { hot = keys_of c.touch.new.items.items }
+  desk = record { hot = keys_of c.touch.new.items.items };
 }
 
 -- what the parts of the call leave
 done_at : (g : _) (c : goal.After-touch g) → IsLooked c.self.inside.geometry c.self.inside.items.items c.self.inside.moment c.self.inside.last_cas (g.J.Journal.told c.self.inside.journal) c.self.invariant c.args.id c.args.key.now c.args.look
-      c.in_ok-found.found c.touch.new.items.items (g.J.Journal.told c.note_behind.new.journal)
+    c.in_ok-found.found c.touch.new.items.items (g.J.Journal.told c.note_behind.new.journal)
 done_at g c =
     let f = c.self.inside in
     let told = g.J.Journal.told f.journal in
@@ -52,15 +52,15 @@ done_at g c =
     let place = c.place_of-place.result in
     let new : IsNewTold told c.args.id = subst (λ (s : Store). IsNewTold s.told c.args.id) (sym c.self.view_is) c.requires in
     is_looked f.geometry f.items.items f.moment f.last_cas told c.self.invariant c.args.id key c.args.look
-      place c.dead_at-dead.result (option_copied c.live_at-live.result) c.in_ok-found.found c.touch.new.items.items (g.J.Journal.told c.note_behind.new.journal)
-      new
-      (subst (λ (l : List Item). IsPlace key l place) c.deref.ensures.value c.place_of-place.ensures)
-      (c.dead_at-dead.ensures ∙ ap (λ (l : List Item). option_map_or (λ item. is_reached item.deadline f.moment) (option_and_then (slice_get l) place) _) c.deref-2.ensures.value)
-      (search rules)
-      c.in_ok-found.ensures
-      c.touch.ensures.items
-      c.touch.ensures.deadline
-      (search rules)
+    place c.dead_at-dead.result (option_copied c.live_at-live.result) c.in_ok-found.found c.touch.new.items.items (g.J.Journal.told c.note_behind.new.journal)
+    new
+    (subst (λ (l : List Item). IsPlace key l place) c.deref.ensures.value c.place_of-place.ensures)
+    (c.dead_at-dead.ensures ∙ ap (λ (l : List Item). option_map_or (λ item. is_reached item.deadline f.moment) (option_and_then (slice_get l) place) _) c.deref-2.ensures.value)
+    (search rules)
+    c.in_ok-found.ensures
+    c.touch.ensures.items
+    c.touch.ensures.deadline
+    (search rules)
 
 pub invariant_of-self-2 : goal.invariant_of-self-2
 invariant_of-self-2 g c = (done_at g c).sound
@@ -72,7 +72,7 @@ returns-clause-ok g c =
     let call = λ (s : Store). look_call s.cache s.desk c.args.id c.args.key.now c.args.look in
     let ready = g.J.Journal.ready c.note_behind.new.journal in
     subst (λ (s : Store). ◌≡◌ {A = Store} (view_now g c) (record s { told = behind (call s).entries s.told; ready = ready; cache = (call s).cache; desk = (call s).desk })) c.self.view_is
-      (λ j. record { geometry = c.self.inside.geometry; told = done.noted j; ready = ready; cache = done.cache j; desk = done.desk j })
+    (λ j. record { geometry = c.self.inside.geometry; told = done.noted j; ready = ready; cache = done.cache j; desk = done.desk j })
 
 pub returns-clause-answer : goal.returns-clause-answer
 returns-clause-answer g c =
