@@ -2,7 +2,7 @@
 -- apart byte by byte.
 use Rattle.std.proofs.Common.{◌≡◌, ℕ, zero, suc, ◌+◌, ◌*◌, ◌/◌, ◌%◌, ◌^◌, ◌<◌, ◌⊎◌, inl, inr, List, [], ◌∷◌, ◌++◌, length, bit_xor, nat_eq, if◌then◌else◌, refl, sym, ap, ◌∙◌, arith, lit<}
 use Rattle.std.proofs.Math.Nat.{pow-suc, mul_assoc}
-use Rattle.std.proofs.lemmas.Nat.{xor_shr, xor_mod, xor_comm, xor_block, pow-add}
+use Rattle.std.proofs.lemmas.Nat.{xor_shr, xor_mod, xor_comm, xor_block}
 use Rattle.std.specs.Int.Bits.{xor_assoc, xor_zero_l, xor_zero_r}
 use Rattle.flash_crc.specs.Crc32c.{polynomial, after_bit, after_bits, remainder}
 
@@ -30,8 +30,9 @@ by_bit r = elim (bit_cases r) [ inl z ↦ rw z (sym (xor_zero_r (r / 2))) | inr 
 taken_xor : (a b : ℕ) → taken (bit_xor (a % 2) (b % 2)) ≡ bit_xor (taken (a % 2)) (taken (b % 2))
 taken_xor a b =
     elim (bit_cases a) [
-      inl z ↦ elim (bit_cases b) [ inl y ↦ rw (z, y) refl | inr y ↦ rw (z, y) refl ]
-    | inr z ↦ elim (bit_cases b) [ inl y ↦ rw (z, y) refl | inr y ↦ rw (z, y) refl ] ]
+      | inl z ↦ elim (bit_cases b) [ inl y ↦ rw (z, y) refl | inr y ↦ rw (z, y) refl ]
+      | inr z ↦ elim (bit_cases b) [ inl y ↦ rw (z, y) refl | inr y ↦ rw (z, y) refl ]
+    ]
 
 bit_linear : (a b : ℕ) → after_bit (bit_xor a b) ≡ bit_xor (after_bit a) (after_bit b)
 bit_linear a b =
@@ -80,11 +81,11 @@ apart r =
     let left : r / 256 * 256 + 0 ≡ r / 256 * 256 = omega arith in
     let right : 0 * 256 + r % 256 ≡ r % 256 = omega arith in
     sym (ap (λ (x : ℕ). bit_xor x (r % 256)) (sym left)
-      ∙ ap (bit_xor (r / 256 * 256 + 0)) (sym right)
-      ∙ xor_block 8 (r / 256) 0 0 (r % 256) (lit< tt) low
-      ∙ ap (λ (x : ℕ). x * 256 + bit_xor 0 (r % 256)) (xor_zero_r (r / 256))
-      ∙ ap (λ (x : ℕ). r / 256 * 256 + x) (xor_zero_l (r % 256))
-      ∙ whole)
+    ∙ ap (bit_xor (r / 256 * 256 + 0)) (sym right)
+    ∙ xor_block 8 (r / 256) 0 0 (r % 256) (lit< tt) low
+    ∙ ap (λ (x : ℕ). x * 256 + bit_xor 0 (r % 256)) (xor_zero_r (r / 256))
+    ∙ ap (λ (x : ℕ). r / 256 * 256 + x) (xor_zero_l (r % 256))
+    ∙ whole)
 
 -- a byte meets the lowest byte of the remainder, and the others move down
 pub byte_step : (r byte : ℕ) → after_bits 8 (bit_xor r byte) ≡ bit_xor (r / 256) (after_bits 8 (bit_xor (r % 256) byte))

@@ -5,6 +5,7 @@ use crate::block::{after_block, after_byte};
 use std::marker::Model;
 
 /// The CRC-32C of these bytes.
+#[tactic(auto, unfolding(crate::specs::Crc32c::crc32c))]
 pub fn crc32c(bytes: &[u8]) -> u32
     ensures { result ≡ checksum_of bytes.now }
 {
@@ -47,6 +48,7 @@ impl Crc {
     }
 
     /// The CRC-32C of all bytes that were fed.
+    #[tactic(auto, unfolding(crate::specs::Crc32c::crc32c))]
     pub fn value(&self) -> u32
         ensures exact { result ≡ bit_xor self.now all_ones }
         ensures checksum { (fed : List ℕ) → self.now ≡ remainder all_ones fed → result ≡ checksum_of fed }
@@ -61,7 +63,7 @@ fn after_bytes(start: u32, bytes: &[u8]) -> u32
 {
     let (blocks, rest) = bytes.as_chunks::<16>();
     let mut r = start;
-    'blocks: for block in blocks {
+    'whole: for block in blocks {
         r = after_block(r, block);
     }
     after_few(r, rest)
