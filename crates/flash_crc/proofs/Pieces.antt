@@ -52,8 +52,8 @@ at_once r (byte ∷ rest) each =
 
 -- each byte by itself, with zero bytes in place of those behind it
 abbrev pub apart : ℕ → List ℕ → ℕ
-apart zeros [] = 0
-apart zeros (byte ∷ rest) = bit_xor (after_bits (8 * (zeros + length rest) + 8) byte) (apart zeros rest)
+apart gap [] = 0
+apart gap (byte ∷ rest) = bit_xor (after_bits (8 * (gap + length rest) + 8) byte) (apart gap rest)
 
 each_apart : (zeros : ℕ) (bytes : List ℕ) → after_bits (8 * zeros) (remainder 0 bytes) ≡ apart zeros bytes
 each_apart zeros [] = from_zero (8 * zeros)
