@@ -9,9 +9,9 @@ use std::time::Instant;
 const LENGTHS: [usize; 4] = [64, 1024, 4096, 1_048_576];
 
 // How many bytes each way takes in a round, and how many rounds there are.
-const ROUND_BYTES: usize = 16_777_216;
+const ROUND_BYTES: usize = 2_097_152;
 
-const ROUNDS: u32 = 9;
+const ROUNDS: u32 = 60;
 
 /// Whether both ways agree on a few bytes. It prints no times.
 pub fn try_out(rt: &HostRuntime) -> io::Result<()> {
