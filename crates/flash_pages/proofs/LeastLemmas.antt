@@ -67,6 +67,7 @@ later_chosen candidate n row rest chosen i above is = record {
   least_of : (candidate : ℕ → PageRow → Option Candidate) (n : ℕ) (row : PageRow) (rest : List PageRow) (chosen : Candidate) (i : ℕ) → ((other : Candidate) → candidate n row ≡ Some other → chosen.weight < other.weight) → IsFirstLeast candidate (n + 1) rest chosen i → (j : ℕ) (other : Candidate) → j < length (row ∷ rest) → Is candidate n (row ∷ rest) j (Some other) → chosen.weight ≤ other.weight
   least_of candidate n row rest chosen i above is zero other inside at = omega (arith, above other (at n (omega arith)))
   least_of candidate n row rest chosen i above is (suc j) other inside at = is.least j other (omega (arith, inside)) (behind candidate n row rest j (Some other) at)
+
   first_of' : (candidate : ℕ → PageRow → Option Candidate) (n : ℕ) (row : PageRow) (rest : List PageRow) (chosen : Candidate) (i : ℕ) → ((other : Candidate) → candidate n row ≡ Some other → chosen.weight < other.weight) → IsFirstLeast candidate (n + 1) rest chosen i → (j : ℕ) (other : Candidate) → j < suc i → Is candidate n (row ∷ rest) j (Some other) → chosen.weight < other.weight
   first_of' candidate n row rest chosen i above is zero other below at = above other (at n (omega arith))
   first_of' candidate n row rest chosen i above is (suc j) other below at = is.first j other (omega (arith, below)) (behind candidate n row rest j (Some other) at)

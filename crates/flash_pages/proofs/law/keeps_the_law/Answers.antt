@@ -1,4 +1,5 @@
 use Rattle.flash_pages.specs.Law.{labels_given}
+use Rattle.flash_pages.proofs.VictimLemmas.{evicted, compacted}
 use Rattle.flash_pages.proofs.LawLemmas.{rise, distinct, counted, kept, unpinned}
 use Rattle.flash_pages.proofs.law.keeps_the_law.Goals as goal
 
@@ -16,3 +17,9 @@ returns-clause-rising c = rise
 
 pub returns-clause-fresh : goal.returns-clause-fresh
 returns-clause-fresh c = λ t calls. distinct t.last (labels_given t calls) (rise t calls)
+
+pub returns-clause-evicted : goal.returns-clause-evicted
+returns-clause-evicted c = evicted
+
+pub returns-clause-compacted : goal.returns-clause-compacted
+returns-clause-compacted c = compacted
