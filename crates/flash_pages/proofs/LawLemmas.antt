@@ -1,5 +1,5 @@
 -- What one call keeps, and so any list of calls.
-use Rattle.std.proofs.Common.{◌≡◌, ◌≢◌, ℕ, zero, suc, ◌+◌, ◌-◌, ◌^◌, ◌<◌, ◌≤◌, Bool, true, false, not, cond, ◌&&◌, nat_eq, nat_le, eqb, IsTrue, List, [], ◌∷◌, ◌++◌, length, get_or, set, Option, Some, None, MatchOption, inl, inr, refl, sym, ap, ◌∙◌, subst, arith, get_or-set_same, get_or-set_other}
+use Rattle.std.proofs.Common.{◌≡◌, ℕ, suc, ◌+◌, ◌-◌, ◌<◌, ◌≤◌, Bool, true, false, cond, IsTrue, List, [], ◌∷◌, ◌++◌, length, get_or, set, Option, Some, None, MatchOption, refl, subst, arith}
 use Rattle.std.proofs.lemmas.Bool.Decides.{nat_tests}
 use Rattle.std.proofs.lemmas.Grind.{common_steps, get_or-set_at}
 use Rattle.std.specs.List.{AllByRecursion, IsDistinct, position_from}
@@ -7,14 +7,14 @@ use Rattle.flash_names.specs.declared.place.Label.{Label}
 use Rattle.flash_pages.specs.declared.page_row.PageRow.{PageRow}
 use Rattle.flash_pages.specs.declared.page_row.Bucket.{Bucket}
 use Rattle.flash_pages.specs.declared.page_row.State.{State}
-use Rattle.flash_pages.specs.declared.page_row.State.TheVariants.{Free, Open, Full, Ended}
+use Rattle.flash_pages.specs.declared.page_row.State.TheVariants.{Full, Ended}
 use Rattle.flash_pages.specs.declared.pages.Opened.{Opened}
 use Rattle.flash_pages.specs.declared.pages.Opened.TheVariants.{Page, NoPage}
-use Rattle.flash_pages.specs.States.{is_free, is_open, is_full, is_ended, is_in_use}
-use Rattle.flash_pages.specs.PageTable.{PageTable, blank, row_of, IsAt, with_row}
+use Rattle.flash_pages.specs.States.{is_free}
+use Rattle.flash_pages.specs.PageTable.{PageTable, blank, row_of, with_row}
 use Rattle.flash_pages.specs.Opening.{next_opened, opened_at, opened_row, with_opened, is_refused, IsFreeRow, WasFree}
 use Rattle.flash_pages.specs.Calls.{Call, opens, pins, unpins, adds_live, takes_live, fills, ends, frees, compacts, compacts_none, spares, Allowed, after, has_ended}
-use Rattle.flash_pages.specs.Law.{AllAllowed, after_all, same_label, label_of, labels_given, Rise, has_version, pins_on, pins_of, unpinned_by, unpinned_by_all, IsKept}
+use Rattle.flash_pages.specs.Law.{AllAllowed, after_all, same_label, label_of, labels_given, Rise, pins_on, pins_of, unpinned_by, unpinned_by_all, IsKept}
 
 -- the version that a page is opened with is above the last
 Above : ℕ → Opened → Type 0

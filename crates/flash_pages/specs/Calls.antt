@@ -1,5 +1,5 @@
 -- The calls that change the pages: when each may be made, and what is after it.
-use Rattle.std.specs.Prelude.{◌≡◌, ℕ, ◌+◌, ◌-◌, ◌^◌, ◌<◌, ◌≤◌, Bool, true, false, not, ◌&&◌, nat_eq, length, Option, None, Some, if◌then◌else◌}
+use Rattle.std.specs.Prelude.{◌≡◌, ℕ, ◌+◌, ◌-◌, ◌^◌, ◌<◌, ◌≤◌, Bool, true, false, not, ◌&&◌, nat_eq, length, None, Some, if◌then◌else◌}
 use Rattle.flash_names.specs.declared.place.Label.{Label}
 use Rattle.flash_pages.specs.declared.page_row.Bucket.{Bucket}
 use Rattle.flash_pages.specs.declared.page_row.State.TheVariants.{Free, Full, Ended}

@@ -1,5 +1,5 @@
 -- What any list of calls keeps: pins, and the labels that they give.
-use Rattle.std.specs.Prelude.{◌≡◌, ℕ, ◌+◌, ◌<◌, Bool, true, false, not, ◌&&◌, nat_eq, List, [], ◌∷◌, ◌++◌, if◌then◌else◌}
+use Rattle.std.specs.Prelude.{◌≡◌, ℕ, ◌+◌, ◌<◌, Bool, false, not, ◌&&◌, nat_eq, List, [], ◌∷◌, ◌++◌, if◌then◌else◌}
 use Rattle.flash_names.specs.declared.place.Label.{Label}
 use Rattle.flash_pages.specs.declared.page_row.PageRow.{PageRow}
 use Rattle.flash_pages.specs.declared.pages.Opened.{Opened}

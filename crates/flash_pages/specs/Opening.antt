@@ -1,7 +1,6 @@
 -- Which page is opened next.
 use Rattle.std.specs.Prelude.{ℕ, ◌+◌, ◌^◌, ◌<◌, Bool, IsTrue, false, ◌||◌, nat_lt, nat_le, Option, None, Some, if◌then◌else◌, slice_set, slice_index_or, length, List}
 use Rattle.std.specs.List.{position_from}
-use Rattle.flash_names.specs.declared.place.Label.{Label}
 use Rattle.flash_pages.specs.declared.page_row.PageRow.{PageRow}
 use Rattle.flash_pages.specs.declared.page_row.Bucket.{Bucket}
 use Rattle.flash_pages.specs.declared.page_row.Bucket.TheVariants.{Default, Compact}

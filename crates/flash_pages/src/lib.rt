@@ -10,3 +10,6 @@ mod victims;
 pub use law::keeps_the_law;
 pub use page_row::{Bucket, PageRow, State};
 pub use pages::{Opened, Pages, Pinned};
+
+#[cfg(test)]
+mod tests;
