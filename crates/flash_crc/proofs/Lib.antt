@@ -1,0 +1,3 @@
+mod Entries
+pub mod Linear
+pub mod Pieces

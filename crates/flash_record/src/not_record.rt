@@ -1,0 +1,14 @@
+/// Why no record stands at the front of some bytes.
+#[derive(Clone, Copy, Debug, PartialEq, Eq)]
+pub enum NotRecord {
+    /// There are no bytes, or the first is 0: the records of a block end here.
+    End,
+    /// One of the first three bytes that are there isn't that of every record.
+    Magic,
+    /// Bytes of the record lack.
+    Short,
+    /// The length of the key is 0 or above 250.
+    Lengths,
+    /// The checksum isn't that of the bytes before it.
+    Sum,
+}
