@@ -1,3 +1,4 @@
+pub mod Bounds
 mod Entries
 pub mod Linear
 pub mod Pieces

@@ -1,9 +1,11 @@
-ghost use Rattle.std.specs.Prelude.{◌≡◌, ◌↔◌, ◌≤◌, ℕ, List, ◌++◌, drop, length, Ok, IfOk, IsTrue, IsOk};
+ghost use Rattle.std.specs.Prelude.{◌≡◌, ◌↔◌, ◌+◌, ◌≤◌, ℕ, List, ◌++◌, drop, length, Ok, IfOk, IsTrue, IsOk};
+ghost use Rattle.std.specs.Int.{w32, w64};
 ghost use Rattle.flash_record.specs.Record.{Parts, Fits, record_bytes, record_length};
-ghost use Rattle.flash_record.specs.Reading.{parts_of, read, Gives, IsRecordOf};
+ghost use Rattle.flash_record.specs.Reading.{parts_of, read, is_end, has_magic, is_at, number_at, key_length as key_length_at, checksum_place, parts_at, has_checksum, Gives, IsRecordOf};
 
 use crate::NotRecord;
-use flash_names::Key;
+use flash_crc::crc32c;
+use flash_names::{Key, MAX_KEY_LEN};
 
 /// A record that was read, with its parts lent by the bytes that it was read from.
 #[derive(Clone, Copy, Debug)]
@@ -36,12 +38,117 @@ pub fn read_record(bytes: &[u8]) -> Result<Record<'_>, NotRecord>
     // Which answer it is.
     ensures exact { Gives result (read bytes.now) }
 {
-    Err(NotRecord::End)
+    first_of(bytes)
+}
+
+// The record at the front, or the first reason why there is none.
+fn first_of(bytes: &[u8]) -> Result<Record<'_>, NotRecord>
+    ensures exact { Gives result (read bytes.now) }
+    ensures length { IfOk result (λ r. (r.length ≡ record_length (parts_of r)) × (r.length ≤ length bytes.now)) }
+{
+    if is_end(bytes) {
+        return Err(NotRecord::End);
+    }
+    if !has_magic(bytes) {
+        return Err(NotRecord::Magic);
+    }
+    if bytes.len() < 32 {
+        return Err(NotRecord::Short);
+    }
+    let key_length = bytes[3] as usize;
+    if key_length < 1 || key_length > MAX_KEY_LEN {
+        return Err(NotRecord::Lengths);
+    }
+    let value_length = u32_at(bytes, 8) as usize;
+    let end = 28 + key_length + value_length;
+    if bytes.len() < end + 4 {
+        return Err(NotRecord::Short);
+    }
+    if !has_checksum(bytes, end) {
+        return Err(NotRecord::Sum);
+    }
+    Ok(record_at(bytes, key_length, end))
+}
+
+// The record whose checksum begins at `end`.
+fn record_at(bytes: &[u8], key_length: usize, end: usize) -> Record<'_>
+    requires key { key_length ≡ key_length_at bytes.now }
+    requires end { end ≡ checksum_place bytes.now }
+    requires room { end + 4 ≤ length bytes.now }
+    ensures parts { parts_of result ≡ parts_at bytes.now }
+    ensures length { result.length ≡ record_length (parts_of result) }
+    ensures within { result.length ≤ length bytes.now }
+{
+    Record {
+        key: &bytes[28..28 + key_length],
+        flags: u32_at(bytes, 4),
+        cas: u64_at(bytes, 12),
+        version: u64_at(bytes, 20),
+        value: &bytes[28 + key_length..end],
+        length: end + 4,
+    }
+}
+
+fn has_checksum(bytes: &[u8], end: usize) -> bool
+    requires end { end ≡ checksum_place bytes.now }
+    requires room { end + 4 ≤ length bytes.now }
+    ensures { result ≡ has_checksum bytes.now }
+{
+    u32_at(bytes, end) == crc32c(&bytes[..end])
+}
+
+fn is_end(bytes: &[u8]) -> bool
+    ensures { result ≡ is_end bytes.now }
+{
+    match bytes.first() {
+        None => true,
+        Some(byte) => *byte == 0,
+    }
+}
+
+fn has_magic(bytes: &[u8]) -> bool
+    ensures { result ≡ has_magic bytes.now }
+{
+    is_at(bytes, 0, 0x46) && is_at(bytes, 1, 0x52) && is_at(bytes, 2, 0x01)
+}
+
+fn is_at(bytes: &[u8], place: usize, byte: u8) -> bool
+    ensures { result ≡ is_at bytes.now place byte }
+{
+    bytes.len() <= place || bytes[place] == byte
+}
+
+fn u32_at(bytes: &[u8], place: usize) -> u32
+    requires { place + 4 ≤ length bytes.now }
+    ensures { result ≡ number_at w32 place bytes.now }
+{
+    let b = &bytes[place..place + 4];
+    u32::from_be_bytes([b[0], b[1], b[2], b[3]])
+}
+
+fn u64_at(bytes: &[u8], place: usize) -> u64
+    requires { place + 8 ≤ length bytes.now }
+    ensures { result ≡ number_at w64 place bytes.now }
+{
+    let b = &bytes[place..place + 8];
+    u64::from_be_bytes([b[0], b[1], b[2], b[3], b[4], b[5], b[6], b[7]])
 }
 
 /// Whether these bytes, all of them, are a record of this key, CAS number and version.
 pub fn is_record_of(bytes: &[u8], key: &Key, cas: u64, version: u64) -> bool
     ensures { IsTrue result ↔ IsRecordOf bytes.now key.now cas version }
 {
-    false
+    let Ok(found) = read_record(bytes) else {
+        return false;
+    };
+    if found.length != bytes.len() {
+        return false;
+    }
+    is_of(&found, key.bytes(), cas, version)
+}
+
+fn is_of(found: &Record<'_>, key: &[u8], cas: u64, version: u64) -> bool
+    ensures { IsTrue result ↔ (found.now.key.now ≡ key.now) × (found.now.cas ≡ cas) × (found.now.version ≡ version) }
+{
+    found.key == key && found.cas == cas && found.version == version
 }

@@ -1,0 +1,6 @@
+pub mod Answered
+pub mod Bytes
+mod Found
+pub mod Places
+pub mod Tests
+mod Written

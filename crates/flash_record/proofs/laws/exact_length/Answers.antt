@@ -1,0 +1,5 @@
+use Rattle.flash_record.proofs.Places.{record_bytes_length}
+use Rattle.flash_record.proofs.laws.exact_length.Goals as goal
+
+pub returns : goal.returns
+returns c = record_bytes_length
