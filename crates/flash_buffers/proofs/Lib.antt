@@ -1,0 +1,4 @@
+pub mod BufferLemmas
+pub mod DropLemmas
+pub mod Pigeonhole
+pub mod SoundLemmas

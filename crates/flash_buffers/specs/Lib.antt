@@ -1,0 +1,5 @@
+pub mod Block
+pub mod BufferTable
+pub mod Calls
+pub mod Covering
+pub mod Sound

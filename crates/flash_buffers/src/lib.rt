@@ -1,0 +1,8 @@
+//! The write buffers: blocks of pages that records are appended to until they are written, and read from
+//! until then.
+#![tactic(auto)]
+
+mod buffer;
+mod buffers;
+
+pub use buffers::{BufferId, Buffers, WriteJob};
