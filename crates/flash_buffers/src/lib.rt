@@ -4,5 +4,7 @@
 
 mod buffer;
 mod buffers;
+mod law;
 
 pub use buffers::{BufferId, Buffers, WriteJob};
+pub use law::keeps_the_law;

@@ -1,0 +1,20 @@
+ghost use Rattle.std.specs.Prelude.{◌≡◌, ℕ, ◌++◌, ◌∷◌, List, Some};
+ghost use Rattle.flash_names.specs.declared.place.Place.{Place};
+ghost use Rattle.flash_record.specs.Record.{Parts, record_bytes};
+ghost use Rattle.flash_buffers.specs.Block.{place_in};
+ghost use Rattle.flash_buffers.specs.BufferTable.{BufferTable, first_table, block_of, read_of};
+ghost use Rattle.flash_buffers.specs.Calls.{Call, appends, after};
+ghost use Rattle.flash_buffers.specs.Law.{AllAllowed, after_all, AllLeave};
+
+/// What holds over any list of calls that each may be made: a record that was appended is read until its
+/// block was written or its page dropped, whatever else happens between. It does nothing.
+pub fn keeps_the_law()
+    ensures { (buffers size : ℕ) (first second : List Call) (number : ℕ) (key : List ℕ) (flags cas : ℕ) (value : List ℕ) (place : Place) →
+        let call : Call = appends number key flags cas value in
+        let before : BufferTable = after_all first (first_table buffers size) in
+        let p : Parts = record { key = key; flags = flags; cas = cas; version = place.label.version; value = value } in
+        AllAllowed (first_table buffers size) (first ++ call ∷ second)
+        → place_in size key flags cas value (block_of before number) ≡ Some place
+        → AllLeave (after call before) place second
+        → read_of (after_all second (after call before)) place ≡ Some (record_bytes p) }
+{}
