@@ -1,5 +1,5 @@
 -- What is left where the buffers of a label are freed.
-use Rattle.std.proofs.Common.{◌≡◌, ℕ, zero, suc, ◌+◌, ◌<◌, ◌≤◌, Bool, true, false, not, cond, nat_eq, is_none, is_some, IsSome, List, [], ◌∷◌, ◌++◌, length, get_or, set, take, drop, map, filter, All, Option, None, Some, refl, sym, ap, ◌∙◌, subst, arith, add-one}
+use Rattle.std.proofs.Common.{◌≡◌, ℕ, zero, suc, ◌+◌, ◌<◌, Bool, true, false, not, cond, nat_eq, is_some, IsSome, List, [], ◌∷◌, ◌++◌, length, get_or, set, take, drop, map, filter, All, Option, None, Some, refl, sym, ap, ◌∙◌, subst, arith, add-one}
 use Rattle.std.proofs.Math.ListN.{get_or-map}
 use Rattle.std.proofs.lemmas.List.{length-map}
 use Rattle.std.specs.List.{AllByRecursion, IsDistinct}

@@ -1,21 +1,21 @@
 -- What one call keeps, and so any list of calls.
-use Rattle.std.proofs.Common.{◌≡◌, ◌≢◌, ℕ, zero, suc, ◌+◌, ◌-◌, ◌<◌, ◌≤◌, Bool, true, false, not, cond, ◌&&◌, nat_eq, nat_le, is_none, is_some, IsSome, List, [], ◌∷◌, ◌++◌, length, get_or, set, take, drop, map, replicate, Option, None, Some, MatchOption, option_map, inl, inr, ◌⊎◌, refl, sym, ap, ◌∙◌, subst, arith, length-append, length-drop}
-use Rattle.std.proofs.Math.ListN.{get_or-map, get_or-eq_default}
-use Rattle.std.proofs.lemmas.Bool.Decides.{nat_tests, eqb_tells}
+use Rattle.std.proofs.Common.{◌≡◌, ◌≢◌, ℕ, zero, suc, ◌+◌, ◌-◌, ◌<◌, ◌≤◌, Bool, true, false, cond, is_none, List, [], ◌∷◌, ◌++◌, length, get_or, set, take, drop, replicate, Option, None, Some, inl, inr, ◌⊎◌, refl, sym, ap, ◌∙◌, subst, arith, length-append, length-drop}
+use Rattle.std.proofs.Math.ListN.{get_or-map}
+use Rattle.std.proofs.lemmas.Bool.Decides.{eqb_tells}
 use Rattle.std.proofs.lemmas.Bool.{leb-true}
-use Rattle.std.proofs.lemmas.List.{get_or-set_other, get_or-set_same, drop-append-le, take-append-le, drop_at, take_at}
+use Rattle.std.proofs.lemmas.List.{get_or-set_other, get_or-set_same, drop-append-le, take-append-le, drop_at}
 use Rattle.std.proofs.Math.Seq.{take-length}
 use Rattle.std.specs.List.{position_from}
 use Rattle.flash_names.specs.declared.place.Label.{Label}
 use Rattle.flash_names.specs.declared.place.Place.{Place}
 use Rattle.flash_record.specs.Record.{Parts, record_length, record_bytes}
 use Rattle.flash_record.proofs.Places.{record_bytes_length}
-use Rattle.flash_buffers.specs.Block.{Block, block_bytes, fits_in, parts_in, next_place, with_record, place_in, appended_in}
-use Rattle.flash_buffers.specs.Covering.{same_label, has_label, covers, bytes_in, read_in}
-use Rattle.flash_buffers.specs.BufferTable.{BufferTable, first_table, block_of, first_free, IsClear, dropped, first_block, oldest, read_of}
+use Rattle.flash_buffers.specs.Block.{Block, fits_in, parts_in, with_record, place_in, appended_in}
+use Rattle.flash_buffers.specs.Covering.{same_label, has_label, covers}
+use Rattle.flash_buffers.specs.BufferTable.{BufferTable, first_table, block_of, first_free, IsClear, dropped, first_block, read_of}
 use Rattle.flash_buffers.specs.Calls.{Call, takes, appends, seals, begins, writes, unwrites, drops, Allowed, after, with_taken, with_written}
 use Rattle.flash_buffers.specs.Law.{AllAllowed, after_all, Leaves, AllLeave}
-use Rattle.flash_buffers.proofs.ReadLemmas.{label_is, same_self, Covering, covering, covers_is, first_byte, read_only, in_records}
+use Rattle.flash_buffers.proofs.ReadLemmas.{label_is, same_self, covering, covers_is, first_byte, read_only, in_records}
 
 -- the buffer has this byte of a label
 abbrev byte_at : Label → ℕ → Place

@@ -1,9 +1,9 @@
 -- What each call keeps of the buffers, over their slots and their line.
-use Rattle.std.proofs.Common.{◌≡◌, ◌≢◌, ℕ, zero, suc, ◌+◌, ◌^◌, ◌<◌, ◌≤◌, Bool, true, false, not, cond, nat_eq, is_none, is_some, IsSome, List, [], ◌∷◌, ◌++◌, length, get_or, set, take, drop, map, filter, replicate, All, Option, None, Some, option_map, refl, sym, ap, ◌∙◌, subst, arith, length-append, ◌||◌, inl, inr, ◌-◌}
+use Rattle.std.proofs.Common.{◌≡◌, ℕ, zero, suc, ◌^◌, ◌<◌, ◌≤◌, Bool, true, false, nat_eq, IsSome, List, [], ◌∷◌, ◌++◌, length, get_or, set, take, drop, replicate, All, Option, None, Some, refl, sym, ap, ◌∙◌, subst, arith, length-append, ◌||◌, inl, inr}
 use Rattle.std.proofs.Math.ListN.{get_or-map}
 use Rattle.std.proofs.lemmas.Bool.Decides.{nat_tests, eqb_tells}
 use Rattle.std.proofs.lemmas.List.{map-set, length-map, length-set, get_or-set_other, length-replicate, get_or-replicate}
-use Rattle.std.proofs.lemmas.Grind.{common_steps, get_or-set_at}
+use Rattle.std.proofs.lemmas.Grind.{get_or-set_at}
 use Rattle.std.proofs.lemmas.List.Elements.{All-set}
 use Rattle.std.specs.List.{AllByRecursion, IsDistinct, list_any}
 use Rattle.flash_names.specs.declared.place.Label.{Label}

@@ -1,10 +1,10 @@
 -- What the buffers are, as one record: their size, by number the block of each that is taken, the numbers of
 -- the sealed ones in the order in which they are written, and whether the first of these is out.
-use Rattle.std.specs.Prelude.{◌≡◌, ℕ, ◌+◌, ◌<◌, ◌≤◌, Bool, true, false, not, ◌&&◌, is_none, nat_eq, List, [], ◌∷◌, length, map, filter, replicate, drop, slice_index_or, slice_set, Option, None, Some, IsSome, option_map, if◌then◌else◌}
+use Rattle.std.specs.Prelude.{◌≡◌, ℕ, ◌+◌, ◌<◌, ◌≤◌, Bool, false, is_none, nat_eq, List, [], ◌∷◌, length, replicate, slice_index_or, Option, None, IsSome, if◌then◌else◌}
 use Rattle.std.specs.List.{list_any, position_from}
 use Rattle.flash_names.specs.declared.place.Label.{Label}
 use Rattle.flash_names.specs.declared.place.Place.{Place}
-use Rattle.flash_buffers.specs.Block.{Block, Slot, block_bytes, block_place}
+use Rattle.flash_buffers.specs.Block.{Block, Slot}
 use Rattle.flash_buffers.specs.Covering.{has_label, covers, read_in}
 
 pub record BufferTable : Type 0 where

@@ -1,11 +1,8 @@
 -- The calls that change the buffers: when each may be made, what it answers, and what is after it.
-use Rattle.std.specs.Prelude.{◌≡◌, ℕ, ◌+◌, ◌^◌, ◌<◌, Bool, true, false, not, ◌||◌, is_none, is_some, nat_eq, List, [], ◌∷◌, ◌++◌, length, map, filter, drop, slice_set, Option, None, Some, IsSome, option_map, if◌then◌else◌}
-use Rattle.std.specs.Option.{option_and_then}
+use Rattle.std.specs.Prelude.{◌≡◌, ℕ, ◌+◌, ◌^◌, ◌<◌, Bool, true, false, not, ◌||◌, is_some, nat_eq, List, [], ◌∷◌, ◌++◌, length, map, filter, slice_set, Option, None, Some, option_map, if◌then◌else◌}
 use Rattle.flash_names.specs.declared.place.Label.{Label}
-use Rattle.flash_names.specs.declared.place.Place.{Place}
-use Rattle.flash_buffers.specs.declared.buffers.BufferId.{BufferId}
 use Rattle.flash_buffers.specs.declared.buffers.WriteJob.{WriteJob}
-use Rattle.flash_buffers.specs.Block.{Block, block_bytes, block_place, place_in, appended_in}
+use Rattle.flash_buffers.specs.Block.{Block, block_bytes, block_place, appended_in}
 use Rattle.flash_buffers.specs.Covering.{has_label}
 use Rattle.flash_buffers.specs.BufferTable.{BufferTable, block_of, first_free, dropped, IsOpen, IsClear, oldest}
 

@@ -1,8 +1,6 @@
 -- What any list of calls keeps: a record is read until its block was written or its page dropped.
-use Rattle.std.specs.Prelude.{◌≡◌, ℕ, false, List, [], ◌∷◌}
-use Rattle.flash_names.specs.declared.place.Label.{Label}
+use Rattle.std.specs.Prelude.{◌≡◌, false, List, [], ◌∷◌}
 use Rattle.flash_names.specs.declared.place.Place.{Place}
-use Rattle.flash_buffers.specs.declared.buffers.WriteJob.{WriteJob}
 use Rattle.flash_buffers.specs.Covering.{same_label, covers}
 use Rattle.flash_buffers.specs.BufferTable.{BufferTable, oldest}
 use Rattle.flash_buffers.specs.Calls.{Call, takes, appends, seals, begins, writes, unwrites, drops, Allowed, after}

@@ -1,4 +1,4 @@
-use Rattle.std.proofs.Common.{◌≡◌, ◌<◌, List, length, arith, ap, sym, ◌∙◌}
+use Rattle.std.proofs.Common.{arith, ap, sym, ◌∙◌}
 use Rattle.flash_buffers.specs.BufferTable.{without}
 use Rattle.flash_buffers.proofs.DropLemmas.{map_step}
 use Rattle.flash_buffers.proofs.buffers.clear_label.Goals as goal

@@ -1,4 +1,4 @@
-use Rattle.std.proofs.Common.{◌≡◌, ℕ, ◌+◌, ◌≤◌, List, ◌++◌, length, take, drop, refl, arith, subst}
+use Rattle.std.proofs.Common.{◌≡◌, ℕ, ◌+◌, ◌≤◌, List, ◌++◌, length, take, drop, arith, subst}
 use Rattle.flash_record.specs.Record.{Parts, record_bytes}
 use Rattle.flash_buffers.proofs.BufferLemmas.{keeps}
 use Rattle.flash_buffers.proofs.buffer.Buffer.append.Goals as goal

@@ -1,4 +1,4 @@
-use Rattle.std.proofs.Common.{◌≡◌, ◌<◌, length, ap, refl}
+use Rattle.std.proofs.Common.{◌<◌, length, ap, refl}
 use Rattle.flash_buffers.specs.BufferTable.{BufferTable}
 use Rattle.flash_buffers.proofs.SoundLemmas.{appended_blocks, number_inside}
 use Rattle.flash_buffers.proofs.buffers.Buffers.append.Goals as goal

@@ -1,6 +1,6 @@
-use Rattle.std.proofs.Common.{◌≡◌, ℕ, List, filter, is_some, get_or, map, length, sym, ap, subst, ◌∙◌, arith, vec_capacity}
+use Rattle.std.proofs.Common.{◌≡◌, ℕ, List, filter, is_some, get_or, map, sym, ap, subst, ◌∙◌, arith, vec_capacity}
 use Rattle.flash_buffers.specs.Block.{Slot}
-use Rattle.flash_buffers.specs.BufferTable.{BufferTable, without}
+use Rattle.flash_buffers.specs.BufferTable.{without}
 use Rattle.flash_buffers.specs.Sound.{IsSound, free_slot}
 use Rattle.flash_buffers.proofs.BufferLemmas.{lent, lent_is}
 use Rattle.flash_buffers.proofs.DropLemmas.{sound_dropped, dropped_table}

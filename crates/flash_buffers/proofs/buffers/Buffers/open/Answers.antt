@@ -1,6 +1,5 @@
-use Rattle.std.proofs.Common.{◌≡◌, ◌≤◌, ℕ, List, [], None, Some, Option, replicate, length, sym, ap, subst, ◌∙◌, refl, arith, vec_capacity}
-use Rattle.flash_buffers.specs.Block.{Block, Slot, blocks_in}
-use Rattle.flash_buffers.specs.BufferTable.{BufferTable}
+use Rattle.std.proofs.Common.{◌≡◌, ℕ, List, None, replicate, length, ap, ◌∙◌, refl, arith, vec_capacity}
+use Rattle.flash_buffers.specs.Block.{Slot, blocks_in}
 use Rattle.flash_buffers.proofs.SoundLemmas.{sound_first, first_blocks}
 use Rattle.flash_buffers.proofs.buffers.Buffers.open.Goals as goal
 

@@ -1,4 +1,4 @@
-use Rattle.std.proofs.Common.{◌≡◌, ◌<◌, ◌∷◌, [], ℕ, List, false, nat_eq, length, sym, ap, subst, arith, vec_capacity}
+use Rattle.std.proofs.Common.{◌≡◌, ◌<◌, ℕ, List, false, nat_eq, length, sym, ap, subst, arith, vec_capacity}
 use Rattle.std.specs.List.{list_any}
 use Rattle.flash_buffers.specs.BufferTable.{BufferTable}
 use Rattle.flash_buffers.specs.Sound.{IsSound, IsTaken}

@@ -1,6 +1,6 @@
-use Rattle.std.proofs.Common.{◌≡◌, ◌<◌, ℕ, List, [], Some, is_none, IsSome, length, set, sym, ap, subst, refl, arith, ◌∙◌, vec_capacity}
+use Rattle.std.proofs.Common.{◌≡◌, ◌<◌, List, Some, is_none, IsSome, length, set, sym, ap, subst, refl, arith, ◌∙◌, vec_capacity}
 use Rattle.std.specs.List.{position_from}
-use Rattle.flash_buffers.specs.Block.{Block, Slot, blocks_in}
+use Rattle.flash_buffers.specs.Block.{Slot, blocks_in}
 use Rattle.flash_buffers.specs.BufferTable.{BufferTable, first_free}
 use Rattle.flash_buffers.proofs.SoundLemmas.{sound_set, taken_table}
 use Rattle.flash_buffers.proofs.buffers.Buffers.take.Goals as goal

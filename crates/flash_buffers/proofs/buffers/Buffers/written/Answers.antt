@@ -1,8 +1,7 @@
-use Rattle.std.proofs.Common.{◌≡◌, ◌<◌, ℕ, List, Bool, false, None, get_or, drop, length, set, is_none, sym, ap, subst, refl, arith, ◌∙◌, vec_capacity}
+use Rattle.std.proofs.Common.{◌≡◌, ◌<◌, Bool, false, drop, length, set, is_none, ap, arith, ◌∙◌, vec_capacity}
 use Rattle.flash_buffers.specs.Block.{Slot, blocks_in}
 use Rattle.flash_buffers.specs.BufferTable.{BufferTable}
 use Rattle.flash_buffers.specs.Calls.{with_written}
-use Rattle.flash_buffers.specs.Sound.{IsSound}
 use Rattle.flash_buffers.proofs.SoundLemmas.{sound_written, written_table, without_first, first_inside}
 use Rattle.flash_buffers.proofs.buffers.Buffers.written.Goals as goal
 
