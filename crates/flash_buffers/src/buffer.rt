@@ -132,7 +132,8 @@ impl Buffer {
     /// The bytes of a place that it covers.
     pub fn read(&self, place: Place) -> &[u8]
         requires { IsTrue (covers self.now.size place self.now.block) }
-        ensures { result.now ≡ bytes_in self.now.size place self.now.block }
+        ensures exact { result.now ≡ bytes_in self.now.size place self.now.block }
+        ensures whole { length result.now ≡ place.length }
     {
         let start = (place.offset - self.offset) as usize;
         &self.bytes[start..start + place.length as usize]

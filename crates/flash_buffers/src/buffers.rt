@@ -51,7 +51,6 @@ impl Model for Buffers {
 }
 
 impl Buffers {
-    // The rest of the file's clauses speak of the jobs and numbers that are declared above.
     ghost use Rattle.flash_buffers.specs.Calls.{after, takes, appends, seals, begins, writes, unwrites, drops, next_job, is_idle, IsOut, IsHome, CanTake};
 
     /// So many free buffers of so many bytes, and one spare, or want of memory. No later call takes memory.
@@ -129,6 +128,7 @@ impl Buffers {
     /// out. The job has to be given back by `written` or `unwritten`.
     pub fn write_begin(&mut self) -> Option<WriteJob>
         ensures exact { result ≡ next_job self.old }
+        ensures whole { IfSome result (λ job. length job.bytes ≡ self.old.size) }
         ensures none { (result ≡ None) ↔ IsTrue (is_idle self.old) }
         ensures after { self.new ≡ after begins self.old }
     {
@@ -172,7 +172,8 @@ impl Buffers {
 
     /// The bytes of the place, where a buffer of its label covers it.
     pub fn read(&self, place: Place) -> Option<&[u8]>
-        ensures { option_copied result ≡ read_of self.now place }
+        ensures exact { option_copied result ≡ read_of self.now place }
+        ensures whole { IfSome result (λ bytes. length bytes.now ≡ place.length) }
     {
         let number = first_covering(&self.rows, self.size, place)?;
         let row = &self.rows[number];

@@ -7,7 +7,7 @@ ghost use Rattle.flash_pages.specs.Victims.{victim_evict, victim_compact, NoneTo
 ghost use Rattle.flash_pages.specs.Law.{AllAllowed, after_all, same_label, labels_given, Rise, pins_of, unpinned_by_all, IsKept};
 
 /// What holds over any list of calls that each may be made: no page that has a pin is freed, and a label
-/// that was given is never given again. It does nothing.
+/// that was given is never given again; and which pages the victims are. It does nothing.
 pub fn keeps_the_law()
     // A page is freed only where it has no pin.
     ensures unpinned { (t : PageTable) (label : Label) (first second : List Call) →
