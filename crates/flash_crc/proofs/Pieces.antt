@@ -1,118 +1,137 @@
--- Sixteen bytes are taken four at a time, and the remainder before them goes into the first four.
-use Rattle.std.proofs.Common.{◌≡◌, ℕ, zero, suc, ◌+◌, ◌*◌, ◌/◌, ◌%◌, ◌^◌, ◌<◌, ◌≤◌, List, [], ◌∷◌, ◌++◌, length, take, drop, get_or, bit_xor, refl, sym, ap, ◌∙◌, arith, length-drop}
-use Rattle.std.proofs.Math.Seq.{drop-cons, drop-length}
-use Rattle.std.proofs.Math.Nat.{div-div-eq-div-mul}
-use Rattle.std.proofs.lemmas.Nat.{xor_comm}
-use Rattle.std.specs.Int.Bits.{xor_assoc, xor_zero_r}
+-- Bytes are added to a remainder all at once, as one number, and a number is taken apart into its bytes.
+use Rattle.std.proofs.Common.{◌≡◌, ℕ, zero, suc, ◌+◌, ◌*◌, ◌^◌, ◌<◌, List, [], ◌∷◌, length, take, drop, get_or, bit_xor, refl, sym, ap, ◌∙◌, arith, lit<, length-take, length-drop}
+use Rattle.std.proofs.lemmas.List.{drop-drop, take-append-drop, take_all}
+use Rattle.std.proofs.lemmas.Nat.{xor_comm, xor_block, from_le_bytes-to_le_bytes_8}
+use Rattle.std.specs.Int.{w64, to_le_bytes}
+use Rattle.std.specs.Int.Bits.{xor_assoc, xor_zero_l, xor_zero_r}
 use Rattle.std.specs.List.{fold}
 use Rattle.std.specs.Simd.{first_chunks}
-use Rattle.std.proofs.lemmas.List.{drop-drop, take-append-drop}
 use Rattle.flash_crc.specs.Crc32c.{after_bits, remainder}
-use Rattle.flash_crc.proofs.Linear.{linear, in_turn, byte_step, beside, joined, halves}
+use Rattle.flash_crc.specs.Word.{number}
+use Rattle.flash_crc.proofs.Linear.{linear, in_turn, shifted, from_zero, beside, joined, halves}
 
--- the remainder's lowest byte goes into the first byte, and the rest of it stays before the others
-lowest_in : (r byte : ℕ) (rest : List ℕ) → remainder r (byte ∷ rest) ≡ bit_xor (after_bits (8 * length rest) (after_bits 8 (bit_xor (r % 256) byte))) (remainder (r / 256) rest)
-lowest_in r byte rest =
-    ap (λ (x : ℕ). remainder x rest) (byte_step r byte ∙ xor_comm (r / 256) (after_bits 8 (bit_xor (r % 256) byte)))
-    ∙ beside (after_bits 8 (bit_xor (r % 256) byte)) (r / 256) rest
+-- the pieces of a list of bytes are lists of bytes
+in_front : (n : ℕ) (bytes : List ℕ) → ((i : ℕ) → get_or bytes i 0 < 256) → (i : ℕ) → get_or (take n bytes) i 0 < 256
+in_front zero bytes each i = lit< tt
+in_front (suc n) [] each i = lit< tt
+in_front (suc n) (byte ∷ rest) each zero = each zero
+in_front (suc n) (byte ∷ rest) each (suc i) = in_front n rest (λ j. each (suc j)) i
 
-absorb_byte : (r byte : ℕ) (rest added : List ℕ) → length rest ≡ length added → remainder (r / 256) rest ≡ remainder 0 added → remainder r (byte ∷ rest) ≡ remainder 0 (bit_xor byte (r % 256) ∷ added)
-absorb_byte r byte rest added size same =
-    let low = bit_xor byte (r % 256) in
-    lowest_in r byte rest
-    ∙ ap (λ (x : ℕ). bit_xor (after_bits (8 * length rest) (after_bits 8 x)) (remainder (r / 256) rest)) (xor_comm (r % 256) byte)
-    ∙ ap (λ (n : ℕ). bit_xor (after_bits (8 * n) (after_bits 8 low)) (remainder (r / 256) rest)) size
-    ∙ ap (bit_xor (after_bits (8 * length added) (after_bits 8 low))) same
-    ∙ sym (lowest_in 0 low added)
+behind : (n : ℕ) (bytes : List ℕ) → ((i : ℕ) → get_or bytes i 0 < 256) → (i : ℕ) → get_or (drop n bytes) i 0 < 256
+behind zero bytes each i = each i
+behind (suc n) [] each i = lit< tt
+behind (suc n) (byte ∷ rest) each i = behind n rest (λ j. each (suc j)) i
 
--- the four bytes of the remainder go into four bytes
-pub absorb : (r : ℕ) → r < 2 ^ 32 → (a b c d : ℕ) → remainder r (a ∷ b ∷ c ∷ d ∷ []) ≡ remainder 0 (bit_xor a (r % 256) ∷ bit_xor b (r / 256 % 256) ∷ bit_xor c (r / 65536 % 256) ∷ bit_xor d (r / 16777216 % 256) ∷ [])
-absorb r small a b c d =
-    let second : r / 256 / 256 ≡ r / 65536 = div-div-eq-div-mul r 256 256 in
-    let third : r / 65536 / 256 ≡ r / 16777216 = div-div-eq-div-mul r 65536 256 in
-    let none : r / 16777216 / 256 ≡ 0 = omega arith in
-    let last : remainder (r / 16777216) (d ∷ []) ≡ remainder 0 (bit_xor d (r / 16777216 % 256) ∷ []) = absorb_byte (r / 16777216) d [] [] refl none in
-    let two : remainder (r / 65536) (c ∷ d ∷ []) ≡ remainder 0 (bit_xor c (r / 65536 % 256) ∷ bit_xor d (r / 16777216 % 256) ∷ []) =
-    absorb_byte (r / 65536) c (d ∷ []) (bit_xor d (r / 16777216 % 256) ∷ []) refl (rw third last) in
-    let three : remainder (r / 256) (b ∷ c ∷ d ∷ []) ≡ remainder 0 (bit_xor b (r / 256 % 256) ∷ bit_xor c (r / 65536 % 256) ∷ bit_xor d (r / 16777216 % 256) ∷ []) =
-    absorb_byte (r / 256) b (c ∷ d ∷ []) (bit_xor c (r / 65536 % 256) ∷ bit_xor d (r / 16777216 % 256) ∷ []) refl (rw second two) in
-    absorb_byte r a (b ∷ c ∷ d ∷ []) (bit_xor b (r / 256 % 256) ∷ bit_xor c (r / 65536 % 256) ∷ bit_xor d (r / 16777216 % 256) ∷ []) refl three
+-- a byte below a number that is moved up by eight bits
+low_byte : (high byte : ℕ) → byte < 256 → high * 256 + byte ≡ bit_xor byte (high * 256)
+low_byte high byte small =
+    let left : high * 256 + 0 ≡ high * 256 = omega arith in
+    let right : 0 * 256 + byte ≡ byte = omega arith in
+    sym (ap (bit_xor byte) (sym left)
+    ∙ ap (λ (x : ℕ). bit_xor x (high * 256 + 0)) (sym right)
+    ∙ xor_block 8 0 high byte 0 small (lit< tt)
+    ∙ ap (λ (x : ℕ). bit_xor 0 high * 256 + x) (xor_zero_r byte)
+    ∙ ap (λ (x : ℕ). x * 256 + byte) (xor_zero_l high))
 
-zeros_behind : (zeros next r byte : ℕ) → next ≡ zeros + 1 → after_bits (8 * zeros) (after_bits 8 (bit_xor r byte)) ≡ bit_xor (after_bits (8 * next) r) (after_bits (8 * zeros + 8) byte)
-zeros_behind zeros next r byte is =
-    let more : 8 + 8 * zeros ≡ 8 * next = omega arith in
-    let turned : 8 + 8 * zeros ≡ 8 * zeros + 8 = omega arith in
-    sym (in_turn 8 (8 * zeros) (bit_xor r byte))
-    ∙ linear (8 + 8 * zeros) r byte
-    ∙ ap (λ (n : ℕ). bit_xor (after_bits n r) (after_bits (8 + 8 * zeros) byte)) more
-    ∙ ap (λ (n : ℕ). bit_xor (after_bits (8 * next) r) (after_bits n byte)) turned
+-- the bytes are added all at once
+pub at_once : (r : ℕ) (bytes : List ℕ) → ((i : ℕ) → get_or bytes i 0 < 256) → remainder r bytes ≡ after_bits (8 * length bytes) (bit_xor r (number bytes))
+unfolding after_bits
+at_once r [] each = sym (xor_zero_r r)
+at_once r (byte ∷ rest) each =
+    let high = number rest in
+    let n = 8 * length rest in
+    let count : 8 + n ≡ 8 * length (byte ∷ rest) = omega arith in
+    let added : bit_xor r (high * 256 + byte) ≡ bit_xor (bit_xor r byte) (high * 256) =
+    ap (bit_xor r) (low_byte high byte (each 0)) ∙ sym (xor_assoc r byte (high * 256)) in
+    let one : after_bits 8 (bit_xor r (high * 256 + byte)) ≡ bit_xor (after_bits 8 (bit_xor r byte)) high =
+    ap (after_bits 8) added ∙ linear 8 (bit_xor r byte) (high * 256) ∙ ap (bit_xor (after_bits 8 (bit_xor r byte))) (shifted 8 high) in
+    at_once (after_bits 8 (bit_xor r byte)) rest (λ i. each (suc i))
+    ∙ ap (after_bits n) (sym one)
+    ∙ sym (in_turn 8 n (bit_xor r (high * 256 + byte)))
+    ∙ ap (λ (k : ℕ). after_bits k (bit_xor r (high * 256 + byte))) count
 
--- four bytes with zero bytes behind them, each byte by itself
-pub four_apart : (zeros a b c d : ℕ) → after_bits (8 * zeros) (remainder 0 (a ∷ b ∷ c ∷ d ∷ [])) ≡ bit_xor (bit_xor (bit_xor (after_bits (8 * (zeros + 3) + 8) a) (after_bits (8 * (zeros + 2) + 8) b)) (after_bits (8 * (zeros + 1) + 8) c)) (after_bits (8 * zeros + 8) d)
-four_apart zeros a b c d =
-    let one = remainder 0 (a ∷ []) in
-    let two = remainder 0 (a ∷ b ∷ []) in
-    let three = remainder 0 (a ∷ b ∷ c ∷ []) in
-    let first : 8 + 8 * (zeros + 3) ≡ 8 * (zeros + 3) + 8 = omega arith in
-    zeros_behind zeros (zeros + 1) three d refl
-    ∙ ap (λ (x : ℕ). bit_xor x (after_bits (8 * zeros + 8) d))
-    (zeros_behind (zeros + 1) (zeros + 2) two c (omega arith)
-    ∙ ap (λ (x : ℕ). bit_xor x (after_bits (8 * (zeros + 1) + 8) c))
-    (zeros_behind (zeros + 2) (zeros + 3) one b (omega arith)
-    ∙ ap (λ (x : ℕ). bit_xor x (after_bits (8 * (zeros + 2) + 8) b))
-    (sym (in_turn 8 (8 * (zeros + 3)) a) ∙ ap (λ (n : ℕ). after_bits n a) first)))
+-- each byte by itself, with zero bytes in place of those behind it
+abbrev pub apart : ℕ → List ℕ → ℕ
+apart gap [] = 0
+apart gap (byte ∷ rest) = bit_xor (after_bits (8 * (gap + length rest) + 8) byte) (apart gap rest)
 
--- the four bytes at a place
-abbrev four : List ℕ → ℕ → List ℕ
-four bytes i = get_or bytes i 0 ∷ get_or bytes (suc i) 0 ∷ get_or bytes (suc (suc i)) 0 ∷ get_or bytes (suc (suc (suc i))) 0 ∷ []
+each_apart : (zeros : ℕ) (bytes : List ℕ) → after_bits (8 * zeros) (remainder 0 bytes) ≡ apart zeros bytes
+each_apart zeros [] = from_zero (8 * zeros)
+each_apart zeros (byte ∷ rest) =
+    let n = length rest in
+    let count : 8 + (8 * n + 8 * zeros) ≡ 8 * (zeros + n) + 8 = omega arith in
+    ap (λ (x : ℕ). after_bits (8 * zeros) (remainder x rest)) (sym (xor_zero_r (after_bits 8 byte)))
+    ∙ ap (after_bits (8 * zeros)) (beside (after_bits 8 byte) 0 rest)
+    ∙ linear (8 * zeros) (after_bits (8 * n) (after_bits 8 byte)) (remainder 0 rest)
+    ∙ ap (bit_xor (after_bits (8 * zeros) (after_bits (8 * n) (after_bits 8 byte)))) (each_apart zeros rest)
+    ∙ ap (λ (x : ℕ). bit_xor x (apart zeros rest))
+    (sym (in_turn (8 * n) (8 * zeros) (after_bits 8 byte)) ∙ sym (in_turn 8 (8 * n + 8 * zeros) byte) ∙ ap (λ (k : ℕ). after_bits k byte) count)
 
-four_off : (bytes : List ℕ) (i : ℕ) → i + 4 ≤ length bytes → drop i bytes ≡ four bytes i ++ drop (suc (suc (suc (suc i)))) bytes
-four_off bytes i within =
-    drop-cons bytes i 0 (omega arith)
-    ∙ ap (λ (l : List ℕ). get_or bytes i 0 ∷ l) (drop-cons bytes (suc i) 0 (omega arith)
-    ∙ ap (λ (l : List ℕ). get_or bytes (suc i) 0 ∷ l) (drop-cons bytes (suc (suc i)) 0 (omega arith)
-    ∙ ap (λ (l : List ℕ). get_or bytes (suc (suc i)) 0 ∷ l) (drop-cons bytes (suc (suc (suc i))) 0 (omega arith))))
+eight_bytes : (w i : ℕ) → get_or (to_le_bytes w64 w) i 0 < 256
+eight_bytes w zero = omega arith
+eight_bytes w (suc zero) = omega arith
+eight_bytes w (suc (suc zero)) = omega arith
+eight_bytes w (suc (suc (suc zero))) = omega arith
+eight_bytes w (suc (suc (suc (suc zero)))) = omega arith
+eight_bytes w (suc (suc (suc (suc (suc zero))))) = omega arith
+eight_bytes w (suc (suc (suc (suc (suc (suc zero)))))) = omega arith
+eight_bytes w (suc (suc (suc (suc (suc (suc (suc zero))))))) = omega arith
+eight_bytes w (suc (suc (suc (suc (suc (suc (suc (suc i)))))))) = lit< tt
 
--- the remainder from zero of the bytes from a place on, with the four at that place by themselves
-piece : (bytes : List ℕ) (i n : ℕ) → i + 4 + n ≡ length bytes → remainder 0 (drop i bytes) ≡ bit_xor (after_bits (8 * n) (remainder 0 (four bytes i))) (remainder 0 (drop (suc (suc (suc (suc i)))) bytes))
-piece bytes i n size =
-    let back = drop (suc (suc (suc (suc i)))) bytes in
-    let count : length back ≡ n = omega (arith, length-drop (suc (suc (suc (suc i)))) bytes) in
-    ap (remainder 0) (four_off bytes i (omega arith))
-    ∙ halves 0 (four bytes i) back
-    ∙ ap (λ (k : ℕ). bit_xor (after_bits (8 * k) (remainder 0 (four bytes i))) (remainder 0 back)) count
+number_of_word : (w : ℕ) → w < 2 ^ 64 → number (to_le_bytes w64 w) ≡ w
+number_of_word w fits = omega (arith, from_le_bytes-to_le_bytes_8 w fits)
 
-front_piece : (r : ℕ) (bytes : List ℕ) → length bytes ≡ 16 → remainder r bytes ≡ bit_xor (after_bits 96 (remainder r (four bytes 0))) (remainder 0 (drop 4 bytes))
-front_piece r bytes size =
-    let count : length (drop 4 bytes) ≡ 12 = omega (arith, length-drop 4 bytes) in
-    ap (remainder r) (four_off bytes 0 (omega arith))
-    ∙ halves r (four bytes 0) (drop 4 bytes)
-    ∙ ap (λ (k : ℕ). bit_xor (after_bits (8 * k) (remainder r (four bytes 0))) (remainder 0 (drop 4 bytes))) count
+-- a number of eight bytes, each of them by itself
+word_apart : (zeros word : ℕ) → word < 2 ^ 64 → apart zeros (to_le_bytes w64 word) ≡ after_bits (8 * zeros + 64) word
+word_apart zeros word fits =
+    let count : 64 + 8 * zeros ≡ 8 * zeros + 64 = omega arith in
+    sym (each_apart zeros (to_le_bytes w64 word))
+    ∙ ap (after_bits (8 * zeros)) (at_once 0 (to_le_bytes w64 word) (eight_bytes word))
+    ∙ ap (λ (x : ℕ). after_bits (8 * zeros) (after_bits 64 x)) (number_of_word word fits)
+    ∙ sym (in_turn 64 (8 * zeros) word)
+    ∙ ap (λ (n : ℕ). after_bits n word) count
 
--- the whole block
-pub block_apart : (r : ℕ) → r < 2 ^ 32 → (bytes : List ℕ) → length bytes ≡ 16 → (first second third fourth : ℕ)
-    → first ≡ after_bits 96 (remainder 0 (bit_xor (get_or bytes 0 0) (r % 256) ∷ bit_xor (get_or bytes 1 0) (r / 256 % 256) ∷ bit_xor (get_or bytes 2 0) (r / 65536 % 256) ∷ bit_xor (get_or bytes 3 0) (r / 16777216 % 256) ∷ []))
-    → second ≡ after_bits 64 (remainder 0 (four bytes 4))
-    → third ≡ after_bits 32 (remainder 0 (four bytes 8))
-    → fourth ≡ after_bits 0 (remainder 0 (four bytes 12))
-    → bit_xor (bit_xor (bit_xor first second) third) fourth ≡ remainder r bytes
-block_apart r small bytes size first second third fourth p q s t =
-    let end : drop 16 bytes ≡ [] = ap (λ (n : ℕ). drop n bytes) (sym size) ∙ drop-length bytes in
-    let from_12 : remainder 0 (drop 12 bytes) ≡ fourth =
-    piece bytes 12 0 (sym size)
-    ∙ ap (λ (l : List ℕ). bit_xor (after_bits 0 (remainder 0 (four bytes 12))) (remainder 0 l)) end
-    ∙ xor_zero_r (after_bits 0 (remainder 0 (four bytes 12)))
-    ∙ sym t in
-    let from_8 : remainder 0 (drop 8 bytes) ≡ bit_xor third fourth =
-    piece bytes 8 4 (sym size) ∙ ap (bit_xor (after_bits 32 (remainder 0 (four bytes 8)))) from_12 ∙ ap (λ (x : ℕ). bit_xor x fourth) (sym s) in
-    let from_4 : remainder 0 (drop 4 bytes) ≡ bit_xor second (bit_xor third fourth) =
-    piece bytes 4 8 (sym size) ∙ ap (bit_xor (after_bits 64 (remainder 0 (four bytes 4)))) from_8 ∙ ap (λ (x : ℕ). bit_xor x (bit_xor third fourth)) (sym q) in
-    let whole : remainder r bytes ≡ bit_xor first (bit_xor second (bit_xor third fourth)) =
-    front_piece r bytes size
-    ∙ ap (bit_xor (after_bits 96 (remainder r (four bytes 0)))) from_4
-    ∙ ap (λ (x : ℕ). bit_xor (after_bits 96 x) (bit_xor second (bit_xor third fourth))) (absorb r small _ _ _ _)
-    ∙ ap (λ (x : ℕ). bit_xor x (bit_xor second (bit_xor third fourth))) (sym p) in
-    xor_assoc (bit_xor first second) third fourth ∙ xor_assoc first second (bit_xor third fourth) ∙ sym whole
+regroup : (a b c d e f g h : ℕ) → bit_xor (bit_xor (bit_xor a b) (bit_xor c d)) (bit_xor (bit_xor e f) (bit_xor g h)) ≡ bit_xor a (bit_xor b (bit_xor c (bit_xor d (bit_xor e (bit_xor f (bit_xor g (bit_xor h 0)))))))
+regroup a b c d e f g h = simp (xor_assoc, xor_zero_r)
+
+-- the same from what stands in the tables
+pub word_from : (zeros word : ℕ) (bytes : List ℕ) → word < 2 ^ 64 → bytes ≡ to_le_bytes w64 word → (a b c d e f g h : ℕ) → a ≡ after_bits (8 * (zeros + 7) + 8) (get_or bytes 0 0) → b ≡ after_bits (8 * (zeros + 6) + 8) (get_or bytes 1 0) → c ≡ after_bits (8 * (zeros + 5) + 8) (get_or bytes 2 0) → d ≡ after_bits (8 * (zeros + 4) + 8) (get_or bytes 3 0) → e ≡ after_bits (8 * (zeros + 3) + 8) (get_or bytes 4 0) → f ≡ after_bits (8 * (zeros + 2) + 8) (get_or bytes 5 0) → g ≡ after_bits (8 * (zeros + 1) + 8) (get_or bytes 6 0) → h ≡ after_bits (8 * zeros + 8) (get_or bytes 7 0)
+    → bit_xor (bit_xor (bit_xor a b) (bit_xor c d)) (bit_xor (bit_xor e f) (bit_xor g h)) ≡ after_bits (8 * zeros + 64) word
+word_from zeros word bytes fits is a b c d e f g h a_is b_is c_is d_is e_is f_is g_is h_is =
+    let last : 8 * zeros + 8 ≡ 8 * (zeros + 0) + 8 = omega arith in
+    let is_a = a_is ∙ ap (λ (l : List ℕ). after_bits (8 * (zeros + 7) + 8) (get_or l 0 0)) is in
+    let is_b = b_is ∙ ap (λ (l : List ℕ). after_bits (8 * (zeros + 6) + 8) (get_or l 1 0)) is in
+    let is_c = c_is ∙ ap (λ (l : List ℕ). after_bits (8 * (zeros + 5) + 8) (get_or l 2 0)) is in
+    let is_d = d_is ∙ ap (λ (l : List ℕ). after_bits (8 * (zeros + 4) + 8) (get_or l 3 0)) is in
+    let is_e = e_is ∙ ap (λ (l : List ℕ). after_bits (8 * (zeros + 3) + 8) (get_or l 4 0)) is in
+    let is_f = f_is ∙ ap (λ (l : List ℕ). after_bits (8 * (zeros + 2) + 8) (get_or l 5 0)) is in
+    let is_g = g_is ∙ ap (λ (l : List ℕ). after_bits (8 * (zeros + 1) + 8) (get_or l 6 0)) is in
+    let is_h = h_is ∙ ap (λ (l : List ℕ). after_bits (8 * zeros + 8) (get_or l 7 0)) is ∙ ap (λ (n : ℕ). after_bits n (get_or (to_le_bytes w64 word) 7 0)) last in
+    regroup a b c d e f g h ∙ rw (is_a, is_b, is_c, is_d, is_e, is_f, is_g, is_h) (word_apart zeros word fits)
+
+-- sixteen bytes as two numbers
+pub two_words : (r : ℕ) (bytes : List ℕ) → length bytes ≡ 16 → ((i : ℕ) → get_or bytes i 0 < 256)
+    → remainder r bytes ≡ bit_xor (after_bits 64 (number (take 8 (drop 8 bytes)))) (after_bits 128 (bit_xor (number (take 8 bytes)) r))
+two_words r bytes size each =
+    let front = take 8 bytes in
+    let back = drop 8 bytes in
+    let front_size : length front ≡ 8 = omega (arith, length-take 8 bytes) in
+    let back_size : length back ≡ 8 = omega (arith, length-drop 8 bytes) in
+    let front_is : remainder r front ≡ after_bits 64 (bit_xor (number front) r) =
+    at_once r front (in_front 8 bytes each)
+    ∙ ap (λ (n : ℕ). after_bits (8 * n) (bit_xor r (number front))) front_size
+    ∙ ap (after_bits 64) (xor_comm r (number front)) in
+    let back_is : remainder 0 back ≡ after_bits 64 (number (take 8 back)) =
+    at_once 0 back (behind 8 bytes each)
+    ∙ ap (λ (n : ℕ). after_bits (8 * n) (number back)) back_size
+    ∙ ap (λ (l : List ℕ). after_bits 64 (number l)) (sym (take_all 8 back (omega arith))) in
+    ap (remainder r) (sym (take-append-drop 8 bytes))
+    ∙ halves r front back
+    ∙ ap (λ (n : ℕ). bit_xor (after_bits (8 * n) (remainder r front)) (remainder 0 back)) back_size
+    ∙ ap (λ (x : ℕ). bit_xor (after_bits 64 x) (remainder 0 back)) front_is
+    ∙ ap (λ (x : ℕ). bit_xor x (remainder 0 back)) (sym (in_turn 64 64 (bit_xor (number front) r)))
+    ∙ ap (bit_xor (after_bits 128 (bit_xor (number front) r))) back_is
+    ∙ xor_comm (after_bits 128 (bit_xor (number front) r)) (after_bits 64 (number (take 8 back)))
 
 -- whole blocks, and then the bytes behind them
 pub blocks_joined : (r k : ℕ) (bytes : List ℕ) → remainder (fold remainder r (first_chunks 16 k bytes)) (drop (k * 16) bytes) ≡ remainder r bytes

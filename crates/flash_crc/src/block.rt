@@ -1,5 +1,6 @@
-ghost use Rattle.std.specs.Prelude.{◌≡◌, ◌+◌, ◌*◌, ◌≤◌, [], ◌∷◌, bit_xor};
+ghost use Rattle.std.specs.Prelude.{◌≡◌, ◌+◌, ◌*◌, ◌≤◌, take, drop, bit_xor};
 ghost use Rattle.flash_crc.specs.Crc32c.{after_bits, remainder};
+ghost use Rattle.flash_crc.specs.Word.{number};
 
 use crate::tables::remainder_of;
 
@@ -8,12 +9,9 @@ use crate::tables::remainder_of;
 pub fn after_block(start: u32, block: &[u8; 16]) -> u32
     ensures { result ≡ remainder start block.now }
 {
-    let [a, b, c, d] = start.to_le_bytes();
-    let first = remainder_of_four(block[0] ^ a, block[1] ^ b, block[2] ^ c, block[3] ^ d, 12);
-    let second = remainder_of_four(block[4], block[5], block[6], block[7], 8);
-    let third = remainder_of_four(block[8], block[9], block[10], block[11], 4);
-    let fourth = remainder_of_four(block[12], block[13], block[14], block[15], 0);
-    first ^ second ^ third ^ fourth
+    let first = word(block, 0) ^ u64::from(start);
+    let second = word(block, 8);
+    remainder_of_word(second, 0) ^ remainder_of_word(first, 8)
 }
 
 /// The remainder after one byte more.
@@ -24,14 +22,34 @@ pub fn after_byte(start: u32, byte: u8) -> u32
     (start >> 8) ^ remainder_of((start & 0xff) as u8 ^ byte, 0)
 }
 
-// The remainder of four bytes with so many zero bytes behind them.
+// The eight bytes at a place as a number, the lowest byte first.
 #[inline(always)]
-fn remainder_of_four(a: u8, b: u8, c: u8, d: u8, zeros: usize) -> u32
-    requires { zeros + 4 ≤ 16 }
-    ensures { result ≡ after_bits (8 * zeros) (remainder 0 (a ∷ b ∷ c ∷ d ∷ [])) }
+fn word(block: &[u8; 16], at: usize) -> u64
+    requires { at + 8 ≤ 16 }
+    ensures { result ≡ number (take 8 (drop at block.now)) }
 {
-    remainder_of(a, zeros + 3)
-        ^ remainder_of(b, zeros + 2)
-        ^ remainder_of(c, zeros + 1)
-        ^ remainder_of(d, zeros)
+    u64::from_le_bytes([
+        block[at],
+        block[at + 1],
+        block[at + 2],
+        block[at + 3],
+        block[at + 4],
+        block[at + 5],
+        block[at + 6],
+        block[at + 7],
+    ])
+}
+
+// The remainder of the eight bytes of this number, the lowest first, with so many zero bytes behind them.
+#[inline(always)]
+fn remainder_of_word(word: u64, zeros: usize) -> u32
+    requires { zeros + 8 ≤ 16 }
+    ensures { result ≡ after_bits (8 * zeros + 64) word }
+{
+    let [a, b, c, d, e, f, g, h] = word.to_le_bytes();
+    let front = (remainder_of(a, zeros + 7) ^ remainder_of(b, zeros + 6))
+        ^ (remainder_of(c, zeros + 5) ^ remainder_of(d, zeros + 4));
+    let back = (remainder_of(e, zeros + 3) ^ remainder_of(f, zeros + 2))
+        ^ (remainder_of(g, zeros + 1) ^ remainder_of(h, zeros));
+    front ^ back
 }

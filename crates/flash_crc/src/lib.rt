@@ -6,3 +6,6 @@ mod crc;
 mod tables;
 
 pub use crc::{Crc, crc32c};
+
+#[cfg(test)]
+mod tests;

@@ -7,7 +7,7 @@ use Rattle.flash_record.specs.Reading.{read, parts_of, Gives}
 use Rattle.flash_record.proofs.Bytes.{IsBytes}
 use Rattle.flash_record.proofs.Found.{stands}
 use Rattle.flash_record.proofs.Places.{read_again}
-use Rattle.flash_record.proofs.Tests.{only_passing}
+use Rattle.flash_record.proofs.Order.{only_passing}
 
 abbrev Stands : List ℕ → Parts → Type 0
 Stands bytes p = (Fits p) × (bytes ≡ record_bytes p ++ drop (record_length p) bytes)

@@ -8,7 +8,7 @@ use Rattle.flash_record.specs.Record.{Parts, Fits, content, record_bytes, record
 use Rattle.flash_record.specs.Reading.{number_at, is_at, has_magic, key_length, value_length, checksum_place, parts_at}
 use Rattle.flash_record.proofs.Bytes.{IsBytes, piece, number_32, number_64, fits_32, fits_64}
 use Rattle.flash_record.proofs.Places.{content_length}
-use Rattle.flash_record.proofs.Tests.{Passes}
+use Rattle.flash_record.proofs.Order.{Passes}
 
 both : (a b : Bool) → a && b ≡ true → (a ≡ true) × (b ≡ true)
 both true b is = (refl, is)

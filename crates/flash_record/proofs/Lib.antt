@@ -2,5 +2,5 @@ pub mod Answered
 pub mod Bytes
 mod Found
 pub mod Places
-pub mod Tests
+pub mod Order
 mod Written

@@ -9,7 +9,7 @@ use Rattle.flash_record.specs.Record.{Parts, Fits, content, record_bytes, record
 use Rattle.flash_record.specs.Reading.{read, number_at, is_end, has_magic, key_length, value_length, checksum_place, parts_at}
 use Rattle.flash_crc.proofs.Bounds.{crc32c_fits}
 use Rattle.flash_record.proofs.Bytes.{IsBytes, in_front}
-use Rattle.flash_record.proofs.Tests.{good_key, all_pass}
+use Rattle.flash_record.proofs.Order.{good_key, all_pass}
 
 -- the value, the checksum and what follows
 behind_key : Parts → List ℕ → List ℕ

@@ -10,3 +10,6 @@ pub use laws::{exact_length, no_prefix};
 pub use not_record::NotRecord;
 pub use reading::{Record, is_record_of, read_record};
 pub use writing::write_record;
+
+#[cfg(test)]
+mod tests;

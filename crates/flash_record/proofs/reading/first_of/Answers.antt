@@ -1,7 +1,7 @@
 use Rattle.std.proofs.Common.{◌≡◌, ◌+◌, length, true, false, nat_lt, Ok, ap, sym, ◌∙◌, arith}
 use Rattle.std.proofs.lemmas.Bool.{lt-ltb, le-ltb}
 use Rattle.flash_record.specs.Reading.{is_end, has_magic, checksum_place, has_checksum}
-use Rattle.flash_record.proofs.Tests.{has_key, at_end, no_magic, no_head, no_key, no_room, no_checksum, all_pass, short_key, long_key, good_key}
+use Rattle.flash_record.proofs.Order.{has_key, at_end, no_magic, no_head, no_key, no_room, no_checksum, all_pass, short_key, long_key, good_key}
 use Rattle.flash_record.proofs.reading.first_of.Goals as goal
 use Rattle.flash_record.proofs.reading.first_of.Goals.{then-key_length-lt1-via-then-key_length-lt1, then-key_length-lt1-via-else-key_length-lt1+then-key_length-gt-MAX_KEY_LEN}
 

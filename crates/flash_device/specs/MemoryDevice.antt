@@ -1,0 +1,12 @@
+-- What a device in memory has.
+use Rattle.flash_names.specs.FaultPlan.{Plan}
+use Rattle.flash_device.specs.Memory.{Held}
+use Rattle.flash_device.specs.declared.memory_device.MemoryDevice.{MemoryDevice}
+
+-- its pages
+abbrev pub held_by : MemoryDevice → Held
+held_by device = device.memory
+
+-- the calls that fail
+abbrev pub plan_of : MemoryDevice → Plan
+plan_of device = device.plan
