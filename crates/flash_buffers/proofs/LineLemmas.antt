@@ -9,7 +9,7 @@ use Rattle.flash_buffers.specs.Block.{Block, appended_in}
 use Rattle.flash_buffers.specs.Covering.{has_label}
 use Rattle.flash_buffers.specs.BufferTable.{BufferTable, block_of, first_free, first_block, dropped}
 use Rattle.flash_buffers.specs.Calls.{Call, takes, appends, seals, begins, writes, unwrites, drops, Allowed, after, with_taken, with_written, job_of, IsOut}
-use Rattle.flash_buffers.specs.Law.{AllAllowed, after_all, Rests, AllRest, DropsNone, AllDropNone, sealed_by, written_by, all_sealed, all_written}
+use Rattle.flash_buffers.specs.Law.{AllAllowed, after_all, KeepsJob, NoneGivesBack, DropsNone, AllDropNone, sealed_by, written_by, all_sealed, all_written}
 use Rattle.flash_buffers.proofs.LawLemmas.{free_at}
 
 -- the job of the first of a line
@@ -31,7 +31,7 @@ not_free size blocks n k rest job is free = λ same.
 not_first : (n k : ℕ) (rest : List ℕ) → list_any (λ m. nat_eq m k) (n ∷ rest) ≡ false → n ≢ k
 not_first n k rest none = λ same. absurd (grind (arith, nat_tests, none, same))
 
-step_out : (t : BufferTable) (job : WriteJob) (line : List ℕ) (call : Call) → t.line ≡ line → Allowed t call → Rests call → t.out ≡ true → FirstIs t.size t.blocks line job → IsOut (after call t) job
+step_out : (t : BufferTable) (job : WriteJob) (line : List ℕ) (call : Call) → t.line ≡ line → Allowed t call → KeepsJob call → t.out ≡ true → FirstIs t.size t.blocks line job → IsOut (after call t) job
 step_out t job [] call line_is may rests out is = absurd (cc is)
 step_out t job (n ∷ rest) (takes label offset) line_is may rests out is = taken (first_free t) refl where
   taken : (number : Option ℕ) → first_free t ≡ number → IsOut (with_taken t label offset number) job
@@ -59,7 +59,7 @@ step_out t job (n ∷ rest) (drops label) line_is may rests out is =
     record { out = out; job_is = subst (λ (l : List ℕ). FirstIs t.size (map (dropped label) t.blocks) l job) (sym (ap (λ (l : List ℕ). filter (λ m. not (has_label label (block_of t m))) l) line_is ∙ left)) first }
 
 -- a job that is out stays so until it is given back
-pub all_out : (t : BufferTable) (job : WriteJob) (calls : List Call) → AllAllowed t calls → AllRest calls → IsOut t job → IsOut (after_all calls t) job
+pub all_out : (t : BufferTable) (job : WriteJob) (calls : List Call) → AllAllowed t calls → NoneGivesBack calls → IsOut t job → IsOut (after_all calls t) job
 all_out t job [] may rests is = is
 all_out t job (call ∷ rest) may rests is = all_out (after call t) job rest may.1 rests.1 (step_out t job t.line call refl may.0 rests.0 is.out is.job_is)
 

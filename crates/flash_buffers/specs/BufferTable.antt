@@ -13,7 +13,7 @@ pub record BufferTable : Type 0 where
   pub line : List ℕ
   pub out : Bool
 
--- all buffers are free, and the spare is home
+-- all buffers are free, and the spare is there
 abbrev pub first_table : ℕ → ℕ → BufferTable
 first_table buffers size = record { size = size; blocks = replicate buffers None; line = []; out = false }
 

@@ -33,8 +33,8 @@ pub record IsOut (t : BufferTable) (job : WriteJob) : Type 0 where
   pub job_is : option_map (λ b. job_of t.size b) (oldest t) ≡ Some job
 
 -- no buffer of the label is out
-abbrev pub IsHome : BufferTable → Label → Type 0
-IsHome t label = t.out ≡ true → has_label label (oldest t) ≡ false
+abbrev pub IsNotOut : BufferTable → Label → Type 0
+IsNotOut t label = t.out ≡ true → has_label label (oldest t) ≡ false
 
 -- a buffer may be taken for this range of a page
 pub record CanTake (t : BufferTable) (label : Label) (offset : ℕ) : Type 0 where
@@ -49,7 +49,7 @@ Allowed t (seals number) = IsOpen t number
 Allowed t begins = Unit {0}
 Allowed t (writes job) = IsOut t job
 Allowed t (unwrites job) = IsOut t job
-Allowed t (drops label) = IsHome t label
+Allowed t (drops label) = IsNotOut t label
 
 -- with a block that has no record yet in this buffer, if there is one
 abbrev pub with_taken : BufferTable → Label → ℕ → Option ℕ → BufferTable

@@ -31,19 +31,19 @@ AllLeave t place [] = Unit {0}
 AllLeave t place (call ∷ rest) = Leaves t place call × AllLeave (after call t) place rest
 
 -- the call doesn't give the job back
-abbrev pub Rests : Call → Type 0
-Rests (takes label offset) = Unit {0}
-Rests (appends number key flags cas value) = Unit {0}
-Rests (seals number) = Unit {0}
-Rests begins = Unit {0}
-Rests (writes job) = ⊥
-Rests (unwrites job) = ⊥
-Rests (drops label) = Unit {0}
+abbrev pub KeepsJob : Call → Type 0
+KeepsJob (takes label offset) = Unit {0}
+KeepsJob (appends number key flags cas value) = Unit {0}
+KeepsJob (seals number) = Unit {0}
+KeepsJob begins = Unit {0}
+KeepsJob (writes job) = ⊥
+KeepsJob (unwrites job) = ⊥
+KeepsJob (drops label) = Unit {0}
 
 -- none of the calls does
-abbrev pub AllRest : List Call → Type 0
-AllRest [] = Unit {0}
-AllRest (call ∷ rest) = Rests call × AllRest rest
+abbrev pub NoneGivesBack : List Call → Type 0
+NoneGivesBack [] = Unit {0}
+NoneGivesBack (call ∷ rest) = KeepsJob call × NoneGivesBack rest
 
 -- the call drops no label
 abbrev pub DropsNone : Call → Type 0

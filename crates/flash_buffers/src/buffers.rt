@@ -51,7 +51,7 @@ impl Model for Buffers {
 }
 
 impl Buffers {
-    ghost use Rattle.flash_buffers.specs.Calls.{after, takes, appends, seals, begins, writes, unwrites, drops, next_job, is_idle, IsOut, IsHome, CanTake};
+    ghost use Rattle.flash_buffers.specs.Calls.{after, takes, appends, seals, begins, writes, unwrites, drops, next_job, is_idle, IsOut, IsNotOut, CanTake};
 
     /// So many free buffers of so many bytes, and one spare, or want of memory. No later call takes memory.
     pub fn open(alloc: Global, buffers: u32, size: u32) -> Result<Buffers, AllocError>
@@ -163,7 +163,7 @@ impl Buffers {
 
     /// Frees the buffers of the label.
     pub fn drop_of(&mut self, label: Label)
-        requires { IsHome self.old label }
+        requires { IsNotOut self.old label }
         ensures { self.new ≡ after (drops label) self.old }
     {
         clear_label(&mut self.rows, label);

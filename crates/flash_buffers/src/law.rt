@@ -5,7 +5,7 @@ ghost use Rattle.flash_record.specs.Record.{Parts, record_bytes};
 ghost use Rattle.flash_buffers.specs.Block.{place_in};
 ghost use Rattle.flash_buffers.specs.BufferTable.{BufferTable, first_table, block_of, read_of};
 ghost use Rattle.flash_buffers.specs.Calls.{Call, appends, after, IsOut};
-ghost use Rattle.flash_buffers.specs.Law.{AllAllowed, after_all, AllLeave, AllRest, AllDropNone, all_sealed, all_written};
+ghost use Rattle.flash_buffers.specs.Law.{AllAllowed, after_all, AllLeave, NoneGivesBack, AllDropNone, all_sealed, all_written};
 
 /// What holds over any list of calls that each may be made: a record that was appended is read until its
 /// block was written or its page dropped, a job that is out stays that of its buffer until it is given
@@ -22,7 +22,7 @@ pub fn keeps_the_law()
 
     // Whatever happens while a job is out, it may be given back.
     ensures out { (t : BufferTable) (job : WriteJob) (calls : List Call) →
-        AllAllowed t calls → AllRest calls → IsOut t job → IsOut (after_all calls t) job }
+        AllAllowed t calls → NoneGivesBack calls → IsOut t job → IsOut (after_all calls t) job }
 
     // Where no label is dropped, the buffers in the line and those that are sealed are written in their order.
     ensures in_order { (t : BufferTable) (calls : List Call) →
