@@ -1,0 +1,6 @@
+pub mod Block
+pub mod BufferTable
+pub mod Calls
+pub mod Covering
+pub mod Law
+pub mod Sound

@@ -1,0 +1,15 @@
+//! The pages of the flash file: which are free, the versions that they are opened with, the pins and the
+//! live records of each, and which page is evicted or compacted next.
+#![tactic(auto)]
+
+mod law;
+mod page_row;
+mod pages;
+mod victims;
+
+pub use law::keeps_the_law;
+pub use page_row::{Bucket, PageRow, State};
+pub use pages::{Opened, Pages, Pinned};
+
+#[cfg(test)]
+mod tests;
