@@ -1,3 +1,4 @@
 mod Readings
 mod Rules
+pub mod Stories
 mod Taken

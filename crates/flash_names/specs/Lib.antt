@@ -6,5 +6,6 @@ pub mod Lending
 pub mod ListClock
 pub mod MemorySink
 pub mod MemorySource
+pub mod Shared
 pub mod Source
 pub mod Told

@@ -12,6 +12,7 @@ mod listed;
 mod memory_sink;
 mod memory_source;
 mod place;
+mod shared;
 mod sink;
 mod source;
 
@@ -25,6 +26,7 @@ pub use listed::Listed;
 pub use memory_sink::MemorySink;
 pub use memory_source::MemorySource;
 pub use place::{Id, ItemId, Label, Place};
+pub use shared::Shared;
 pub use sink::{Sink, SinkFault};
 pub use source::{Source, SourceFault};
 

@@ -1,0 +1,34 @@
+-- What each step tells the pass that makes it: `m` is what it was, `r` what the step found, and `n` what it is.
+use Rattle.std.specs.Prelude.{◌≡◌, ◌≢◌, ℕ, ◌%◌, ◌^◌, true, false, List, [], ◌∷◌, Option, Some, None, Box}
+use Rattle.atomic_table.specs.Table.{Me}
+use Rattle.flash_names.specs.Shared.{Begins, own_of}
+use Rattle.flash_turn.specs.declared.view.View.{View}
+use Rattle.flash_turn.specs.Rule.{things_left}
+
+-- the first pass: number 1, which has seen the value
+abbrev pub first_view : {T : Type 0} → T → View T
+first_view value = record { numbers = 1 ∷ []; spare = None; over = false; ticket = None; has = false; seen = Some value; met = None; took = None; left = None }
+
+-- what a pass knows of the lock, and the slots that it holds
+abbrev pub Self : Type 0 → Type 0 → Type 0
+Self T A = Me (Option (Box T A)) (View T)
+
+module _ {T A : Type 0} where
+  -- a ticket was drawn: the number found is the ticket's remainder
+  abbrev pub Draws : Self T A → ℕ → Self T A → Type 0
+  Draws m r n = (k : ℕ) × (r ≡ k % 2 ^ 64) × (n ≡ (record m.0 { ticket = Some k }, m.1))
+
+  -- the value in the slot was given back, and the next ticket is served
+  abbrev pub Serves : Self T A → ℕ → Self T A → Type 0
+  Serves m r n = (b : Box T A) → m.1 ≡ (0, Some b) ∷ [] → n ≡ (record m.0 { ticket = None; has = false; seen = Some b.value; left = Some b.value }, [])
+
+module _ {T E O F A : Type 0} (story : T → Option (List E)) (own : T → List (ℕ × O)) (fixed : T → F) where
+  -- the value was taken: its story begins with what was seen, its fixed part is known, and the things of the pass are as it left them
+  abbrev pub Takes : Self T A → Self T A → Type 0
+  Takes m n = (b : Box T A) × (n ≡ (record m.0 { has = true; took = Some b.value }, (0, Some b) ∷ []))
+      × ((x : T) → m.0.seen ≡ Some x → Begins (story x) (story b.value) × (fixed b.value ≡ fixed x))
+      × ((k : ℕ) (joined : List ℕ) → m.0.numbers ≡ k ∷ joined → own_of k (own b.value) ≡ things_left own k m.0.left)
+
+  -- where its ticket is served the value was taken, and else nothing changed
+  abbrev pub Looks : Self T A → ℕ → Self T A → Type 0
+  Looks m r n = (k : ℕ) → m.0.ticket ≡ Some k → (r ≡ k % 2 ^ 64 → Takes m n) × (r ≢ k % 2 ^ 64 → n ≡ m)

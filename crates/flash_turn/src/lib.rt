@@ -1,0 +1,19 @@
+//! One value that threads change in turn: a ticket lock whose passes remember what they saw of the value.
+#![tactic(auto)]
+
+mod gate;
+mod held;
+mod lends;
+mod pass;
+mod rule;
+mod turn;
+mod view;
+
+pub use flash_names::Shared;
+pub use held::{Held, HeldIn};
+pub use pass::Pass;
+pub use turn::Turn;
+pub use view::View;
+
+#[cfg(test)]
+mod tests;
