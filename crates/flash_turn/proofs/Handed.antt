@@ -7,7 +7,7 @@ use Rattle.flash_turn.specs.Rule.{things_left}
 use Rattle.flash_turn.specs.declared.view.View.{View}
 use Rattle.flash_turn.specs.declared.pass.Pass.{Pass}
 use Rattle.flash_turn.specs.declared.turn.Turn.{Turn}
-use Rattle.flash_turn.specs.Steps.{Self, first_view, Serves, Looks, Takes}
+use Rattle.flash_turn.specs.Steps.{Self, new_view, first_view, Serves, Looks, Takes}
 use Rattle.flash_turn.specs.Passes.{view_of, IsIdle, IsPassOf, Meets}
 use Rattle.flash_turn.specs.HeldValues.{IsHolding}
 
@@ -33,6 +33,10 @@ pass_of fixed turn pass v table e idle knows = record {
   };
   knows = knows;
 }
+
+-- a pass that was split off
+abbrev pub new_idle : {T : Type 0} (n : ℕ) (v : View T) (idle : IsIdle n v) (number : ℕ) → IsIdle number (new_view number v.seen)
+new_idle n v idle number = record { joined = []; numbers = refl; spare = refl; over = refl; ticket = refl; has = refl; met = refl; last = idle.last; seen = idle.seen }
 
 abbrev pub first_idle : {T : Type 0} (value : T) → IsIdle 1 (first_view value)
 first_idle value = record { joined = []; numbers = refl; spare = refl; over = refl; ticket = refl; has = refl; met = refl; last = value; seen = refl }

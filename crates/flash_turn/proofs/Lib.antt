@@ -5,4 +5,5 @@ mod Lists
 mod Numbers
 mod Opening
 mod Queues
+mod Splitting
 mod Totals

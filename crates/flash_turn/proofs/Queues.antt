@@ -1,13 +1,14 @@
 -- Each step keeps the order of the tickets.
-use Rattle.std.proofs.Common.{◌≡◌, ℕ, ◌+◌, ◌<◌, ◌≤◌, List, set, sym, ap, ◌∙◌, arith, Some, None}
+use Rattle.std.proofs.Common.{◌≡◌, ℕ, ◌+◌, ◌<◌, ◌≤◌, List, set, sym, ap, ◌∙◌, arith, Some, None, ◌++◌, ◌∷◌, [], ⊎_elim}
 use mathlib.Core.Logic.{dite}
 use native.Mathlib.Decide.{ℕ_discrete}
 use mathlib.Core.Option.{some}
 use lib.ListN.{get_elem?}
+use Rattle.atomic_table.proofs.Lists.{at_snoc}
 use Rattle.flash_turn.specs.declared.view.View.{View}
 use Rattle.flash_turn.specs.Counts.{total, one_if_at, one_if_some, waits, waits_at}
 use Rattle.flash_turn.specs.Queue.{Queue}
-use Rattle.flash_turn.proofs.Totals.{total-set, total_same, total_none, terms_le, at_here, at_else, at_other}
+use Rattle.flash_turn.proofs.Totals.{total-append, total-set, total_same, total_none, terms_le, at_here, at_else, at_other}
 use Rattle.flash_turn.proofs.Lists.{each_set}
 
 module _ {T : Type 0} (drawn served : ℕ) (views : List (View T)) (i : ℕ) (v w : View T) where
@@ -59,3 +60,11 @@ module _ {T : Type 0} (drawn served : ℕ) (views : List (View T)) (i : ℕ) (v 
         (λ j u other there ok. ok)
         (λ k at. q.between i v here k (sym same ∙ at));
   }
+
+-- a new pass without a ticket
+pub queue_more : {T : Type 0} (drawn served : ℕ) (views : List (View T)) (new : View T) → new.ticket ≡ None → Queue drawn served views → Queue drawn served (views ++ new ∷ [])
+queue_more {T} drawn served views new none q = record {
+  count = let e = total-append waits views (new ∷ []) in let z : waits new ≡ 0 = ap one_if_some none in let c = q.count in omega arith;
+  distinct = λ k. let e = total-append (waits_at k) views (new ∷ []) in let z : waits_at k new ≡ 0 = ap (one_if_at k) none in let c = q.distinct k in omega arith;
+  between = λ j u there k at. ⊎_elim (λ old. q.between j u old k at) (λ (is : new ≡ u). absurd (cc (none, ap (λ (x : View T). x.ticket) is, at))) (at_snoc views new u j there);
+}

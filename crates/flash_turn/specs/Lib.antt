@@ -1,8 +1,10 @@
 pub mod Counts
 pub mod HeldValues
 pub mod Lending
+pub mod Next
 pub mod Numbered
 pub mod Passes
 pub mod Queue
 pub mod Rule
+pub mod Splitting
 pub mod Steps

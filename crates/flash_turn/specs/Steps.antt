@@ -1,13 +1,27 @@
 -- What each step tells the pass that makes it: `m` is what it was, `r` what the step found, and `n` what it is.
-use Rattle.std.specs.Prelude.{◌≡◌, ◌≢◌, ℕ, ◌%◌, ◌^◌, true, false, List, [], ◌∷◌, Option, Some, None, Box}
+use Rattle.std.specs.Prelude.{◌≡◌, ◌≢◌, ℕ, ◌%◌, ◌^◌, ◌<◌, ◌≤◌, true, false, List, [], ◌∷◌, Option, Some, None, Box}
 use Rattle.atomic_table.specs.Table.{Me}
 use Rattle.flash_names.specs.Shared.{Begins, own_of}
 use Rattle.flash_turn.specs.declared.view.View.{View}
+use Rattle.std.specs.Option.{unwrap_or}
+use Rattle.flash_turn.specs.Next.{IsNext}
+use Rattle.flash_turn.specs.Numbered.{limit}
 use Rattle.flash_turn.specs.Rule.{things_left}
 
 -- the first pass: number 1, which has seen the value
 abbrev pub first_view : {T : Type 0} → T → View T
 first_view value = record { numbers = 1 ∷ []; spare = None; over = false; ticket = None; has = false; seen = Some value; met = None; took = None; left = None }
+
+-- a pass that was split off under the number n, and has seen what the other had seen
+abbrev pub new_view : {T : Type 0} → ℕ → Option T → View T
+new_view n seen = record { numbers = n ∷ []; spare = None; over = false; ticket = None; has = false; seen = seen; met = None; took = None; left = None }
+
+-- the number that a pass had drawn went to the pass that was split off
+abbrev pub split_left : {T : Type 0} → View T → View T
+split_left v = record v { spare = None }
+
+abbrev pub split_right : {T : Type 0} → View T → View T
+split_right v = new_view (unwrap_or v.spare 0) v.seen
 
 -- what a pass knows of the lock, and the slots that it holds
 abbrev pub Self : Type 0 → Type 0 → Type 0
@@ -22,12 +36,20 @@ module _ {T A : Type 0} where
   abbrev pub Serves : Self T A → ℕ → Self T A → Type 0
   Serves m r n = (b : Box T A) → m.1 ≡ (0, Some b) ∷ [] → n ≡ (record m.0 { ticket = None; has = false; seen = Some b.value; left = Some b.value }, [])
 
+  -- a number that was too large was put back
+  abbrev pub PutsBack : Self T A → ℕ → Self T A → Type 0
+  PutsBack m r n = n ≡ (record m.0 { over = false }, m.1)
+
 module _ {T E O F A : Type 0} (story : T → Option (List E)) (own : T → List (ℕ × O)) (fixed : T → F) where
   -- the value was taken: its story begins with what was seen, its fixed part is known, and the things of the pass are as it left them
   abbrev pub Takes : Self T A → Self T A → Type 0
   Takes m n = (b : Box T A) × (n ≡ (record m.0 { has = true; took = Some b.value }, (0, Some b) ∷ []))
       × ((x : T) → m.0.seen ≡ Some x → Begins (story x) (story b.value) × (fixed b.value ≡ fixed x))
       × ((k : ℕ) (joined : List ℕ) → m.0.numbers ≡ k ∷ joined → own_of k (own b.value) ≡ things_left own k m.0.left)
+
+  -- a number was drawn: below the limit it is for a new pass, else it has to be put back
+  abbrev pub Numbers : Self T A → ℕ → Self T A → Type 0
+  Numbers m r n = (r < limit → n ≡ (record m.0 { spare = Some r }, m.1)) × (limit ≤ r → n ≡ (record m.0 { over = true }, m.1)) × IsNext story own fixed A m.0 r
 
   -- where its ticket is served the value was taken, and else nothing changed
   abbrev pub Looks : Self T A → ℕ → Self T A → Type 0

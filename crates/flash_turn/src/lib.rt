@@ -6,12 +6,14 @@ mod held;
 mod lends;
 mod pass;
 mod rule;
+mod split;
 mod turn;
 mod view;
 
 pub use flash_names::Shared;
 pub use held::{Held, HeldIn};
 pub use pass::Pass;
+pub use split::Split;
 pub use turn::Turn;
 pub use view::View;
 

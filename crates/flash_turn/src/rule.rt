@@ -1,9 +1,9 @@
 // The rule of the table, and the names of its steps.
 ghost use Rattle.flash_turn.specs.Rule.{Kept};
-ghost use Rattle.flash_turn.specs.Steps.{first_view, Draws, Looks, Serves};
+ghost use Rattle.flash_turn.specs.Steps.{first_view, split_left, split_right, Draws, Looks, Serves, Numbers, PutsBack};
 
 use crate::{Shared, View};
-use atomic_table::{Play, TableRule};
+use atomic_table::{Play, Split, TableRule};
 use std::marker::PhantomData;
 use std::snapshot::Snapshot;
 
@@ -42,4 +42,29 @@ pub struct Serve;
 
 impl<T> Play<Slot<T>, View<T>> for Serve {
     ghost then = { λ step. Serves };
+}
+
+/// A number is drawn for a new pass.
+pub struct Number<T> {
+    marker: PhantomData<T>,
+}
+
+impl<T: Shared> Play<Slot<T>, View<T>> for Number<T> {
+    ghost then = { λ step. Numbers T.story T.own T.fixed };
+}
+
+/// A number that was too large is put back.
+pub struct PutBack;
+
+impl<T> Play<Slot<T>, View<T>> for PutBack {
+    ghost then = { λ step. PutsBack };
+}
+
+/// A new pass gets the number that was drawn.
+pub struct Part;
+
+impl<T> Split<View<T>> for Part {
+    ghost left = { split_left };
+
+    ghost right = { split_right };
 }
