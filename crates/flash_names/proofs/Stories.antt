@@ -1,8 +1,9 @@
 -- Stories that begin one another, and what belongs to one number.
-use Rattle.std.proofs.Common.{◌≡◌, ℕ, ◌≢◌, ◌==◌, not, cond, Bool, true, false, List, [], ◌∷◌, ◌++◌, map, filter, sym, refl, ap, ◌∙◌, append_assoc, append-nil, Option, Some, None, ne_eqb, eq-eqb}
+use Rattle.std.proofs.Common.{◌≡◌, ℕ, ◌≢◌, ◌==◌, not, cond, Bool, true, false, List, [], ◌∷◌, ◌++◌, map, filter, sym, refl, ap, ◌∙◌, append_assoc, append-nil, Option, Some, None, ne_eqb, eq-eqb, ◌≤◌, length, arith}
 use mathlib.Core.Logic.{dite}
 use native.Mathlib.Decide.{ℕ_discrete}
-use Rattle.flash_names.specs.Shared.{Begins, own_of, without}
+use mathlib.Core.List.{IsPrefix}
+use Rattle.flash_names.specs.Shared.{Begins, told_length, own_of, without}
 
 pub begins_self : {E : Type 0} (a : Option (List E)) → Begins a a
 begins_self None = tt
@@ -33,3 +34,22 @@ module _ {O : Type 0} where
   -- where the pairs of all numbers but n are the same, so are the things of m
   pub own_kept : (m n : ℕ) → m ≢ n → (before after : List (ℕ × O)) → without n after ≡ without n before → own_of m after ≡ own_of m before
   own_kept m n ne before after same = sym (own_of-without m n ne after) ∙ (ap (own_of m) same ∙ own_of-without m n ne before)
+
+-- of two beginnings of one list the shorter begins the longer
+pub prefix_shorter : {A : Type 0} (xs ys zs : List A) → IsPrefix xs zs → IsPrefix ys zs → length xs ≤ length ys → IsPrefix xs ys
+prefix_shorter [] ys zs p q le = (ys, refl)
+prefix_shorter (x ∷ xs) [] zs p q le = absurd (omega arith)
+prefix_shorter (x ∷ xs) (y ∷ ys) [] p q le = absurd (cc p.1)
+prefix_shorter (x ∷ xs) (y ∷ ys) (z ∷ zs) p q le =
+    let heads : x ≡ y = cc (p.1, q.1) in
+    let rest = prefix_shorter xs ys zs (p.0, cc p.1) (q.0, cc q.1) (omega arith) in
+    (rest.0, cc (heads, rest.1))
+
+pub begins_shorter : {E : Type 0} (a b c : Option (List E)) → Begins a c → Begins b c → told_length a ≤ told_length b → Begins a b
+begins_shorter None None None p q le = tt
+begins_shorter None None (Some zs) p q le = absurd p
+begins_shorter None (Some ys) None p q le = absurd q
+begins_shorter None (Some ys) (Some zs) p q le = absurd p
+begins_shorter (Some xs) b None p q le = absurd p
+begins_shorter (Some xs) None (Some zs) p q le = absurd q
+begins_shorter (Some xs) (Some ys) (Some zs) p q le = prefix_shorter xs ys zs p q le

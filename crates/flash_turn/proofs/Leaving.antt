@@ -15,7 +15,7 @@ use Rattle.flash_turn.proofs.Numbers.{numbered_same}
 use Rattle.flash_names.proofs.Stories.{begins_self, begins_trans, own_kept}
 
 -- a number that stands first in a list stands in it
-first_times : (n : ℕ) (numbers joined : List ℕ) → numbers ≡ n ∷ joined → 1 ≤ times n numbers
+pub first_times : (n : ℕ) (numbers joined : List ℕ) → numbers ≡ n ∷ joined → 1 ≤ times n numbers
 first_times n numbers joined e =
     let here = at_here n in let all : times n numbers ≡ times n (n ∷ joined) = ap (times n) e in omega (arith, here, all)
 
@@ -56,7 +56,7 @@ module _ {T E O F A : Type 0} (story : T → Option (List E)) (own : T → List 
           known = each_set (Knows story own fixed kept.served kept.value) (Knows story own fixed (kept.served + 1) b.value) s.views id w kept.known
               (λ j u other there ok. record {
                 seen = λ x e. let old = ok.seen x e in (begins_trans (story x) (story kept.value) (story b.value) old.0 grows', same' ∙ old.1);
-                met = λ x e. begins_trans (story x) (story kept.value) (story b.value) (ok.met x e) grows';
+                met = λ x e. let old = ok.met x e in (begins_trans (story x) (story kept.value) (story b.value) old.0 grows', same' ∙ old.1);
                 left = λ m more e. own_kept m n (λ d. let theirs = first_times m u.numbers more e in let theirs' : times m u.numbers ≡ times n u.numbers = ap (λ x. times x u.numbers) d in
                     let two = terms_le (claims n) s.views id j v u other here there in let one = kept.numbered.distinct n in absurd (omega arith)) (own kept.value) (own b.value) others' ∙ ok.left m more e;
                 out = λ e. let o = ok.out e in let theirs : waits_at kept.served u ≡ 1 = ap (one_if_at kept.served) o.0 ∙ at_here kept.served in
@@ -64,7 +64,7 @@ module _ {T E O F A : Type 0} (story : T → Option (List E)) (own : T → List 
               })
               (record {
                 seen = λ x e. let y : b.value ≡ x = cc e in (subst (λ z. Begins (story z) (story b.value)) y (begins_self (story b.value)), ap fixed y);
-                met = λ x e. begins_trans (story x) (story kept.value) (story b.value) (knows.met x e) grows';
+                met = λ x e. let old = knows.met x e in (begins_trans (story x) (story kept.value) (story b.value) old.0 grows', same' ∙ old.1);
                 left = λ m more e. refl;
                 out = λ e. absurd (cc e);
               });

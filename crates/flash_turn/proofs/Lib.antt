@@ -1,5 +1,8 @@
+mod Ending
 mod Entering
 mod Handed
+mod Joined
+mod Joining
 mod Leaving
 mod Lists
 mod Numbers

@@ -5,9 +5,10 @@ use native.Mathlib.Decide.{ℕ_discrete}
 use mathlib.Core.Option.{some}
 use lib.ListN.{get_elem?}
 use Rattle.flash_turn.specs.declared.view.View.{View}
-use Rattle.flash_turn.specs.Counts.{total, times, one_if_at, one_if_some, claims, spares, overs}
+use Rattle.flash_turn.specs.Counts.{total, times, one_if_at, one_if_some, claims, spares, overs, given}
 use Rattle.flash_turn.specs.Numbered.{limit, Numbered}
-use Rattle.flash_turn.proofs.Totals.{total-append, total-set, total_same, total_few, at_most, at_else, bit_most}
+use Rattle.flash_turn.specs.Steps.{spent_view}
+use Rattle.flash_turn.proofs.Totals.{times-append, total-append, total-set, total_same, total_few, at_most, at_else, bit_most}
 
 module _ {T : Type 0} (next : ℕ) (views : List (View T)) (i : ℕ) (v w : View T) where
   -- a step that leaves the numbers
@@ -124,3 +125,40 @@ module _ {T : Type 0} (next : ℕ) (views : List (View T)) (i : ℕ) (v w : View
         most = let f = n.most in omega arith;
         exact = λ p. let f = n.exact (omega arith) in omega arith;
       }
+
+-- a pass takes in the numbers of another, which has no other claim
+pub numbered_joins : {T : Type 0} (next : ℕ) (views : List (View T)) (i o : ℕ) (v w both : View T) → get_elem? views i ≡ some v → get_elem? (set views i both) o ≡ some w → both.numbers ≡ v.numbers ++ w.numbers → both.spare ≡ v.spare → both.over ≡ v.over → w.spare ≡ None → w.over ≡ false
+    → Numbered next views → Numbered next (set (set views i both) o spent_view)
+numbered_joins {T} next views i o v w both here there numbers spare over w-spare w-over n =
+    let mid : List (View T) = set views i both in
+    let claim : (x : ℕ) → total (claims x) (set mid o spent_view) ≡ total (claims x) views = λ x.
+    let first = total-set (claims x) views i v both here in
+    let second = total-set (claims x) mid o w spent_view there in
+    let a : claims x both ≡ times x (v.numbers ++ w.numbers) + one_if_at x v.spare = ap₂ (λ (p q : ℕ). p + q) (ap (times x) numbers) (ap (one_if_at x) spare) in
+    let b = times-append x v.numbers w.numbers in
+    let c : claims x w ≡ times x w.numbers + 0 = ap (λ o. times x w.numbers + one_if_at x o) w-spare in
+    omega arith in
+    let spares-1 = total_same spares views i v both here (ap one_if_some spare) in
+    let spares-2 = total_same spares mid o w spent_view there (sym (ap one_if_some w-spare)) in
+    let overs-1 = total_same overs views i v both here (ap (λ b. cond b 1 0) over) in
+    let overs-2 = total_same overs mid o w spent_view there (sym (ap (λ b. cond b 1 0) w-over)) in
+    let long-1 = length-set views i both in
+    let long-2 = length-set mid o spent_view in
+    record {
+      distinct = λ x. let c = claim x in let d = n.distinct x in omega arith;
+      drawn = λ x some. n.drawn x (let c = claim x in omega arith);
+      fewer = let f = n.fewer in omega arith;
+      few = let f = n.few in omega arith;
+      most = let f = n.most in omega arith;
+      exact = λ p. let f = n.exact (omega arith) in omega arith;
+    }
+
+-- the same of the numbers that were given
+pub given_joins : {T : Type 0} (views : List (View T)) (i o : ℕ) (v w both : View T) (x : ℕ) → get_elem? views i ≡ some v → get_elem? (set views i both) o ≡ some w → both.numbers ≡ v.numbers ++ w.numbers
+    → total (given x) (set (set views i both) o spent_view) ≡ total (given x) views
+given_joins {T} views i o v w both x here there numbers =
+    let mid : List (View T) = set views i both in
+    let first = total-set (given x) views i v both here in
+    let second = total-set (given x) mid o w spent_view there in
+    let a : given x both ≡ times x (v.numbers ++ w.numbers) = ap (times x) numbers in
+    let b = times-append x v.numbers w.numbers in omega arith

@@ -1,5 +1,7 @@
+pub mod Closing
 pub mod Counts
 pub mod HeldValues
+pub mod Joining
 pub mod Lending
 pub mod Next
 pub mod Numbered

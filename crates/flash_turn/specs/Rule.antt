@@ -19,7 +19,7 @@ module _ {T E O F : Type 0} (story : T → Option (List E)) (own : T → List (�
   -- and the things of the pass are as it left them
   pub record Knows (served : ℕ) (value : T) (v : View T) : Type 0 where
     pub seen : (x : T) → v.seen ≡ Some x → Begins (story x) (story value) × (fixed value ≡ fixed x)
-    pub met : (x : T) → v.met ≡ Some x → Begins (story x) (story value)
+    pub met : (x : T) → v.met ≡ Some x → Begins (story x) (story value) × (fixed value ≡ fixed x)
     pub left : (n : ℕ) (joined : List ℕ) → v.numbers ≡ n ∷ joined → own_of n (own value) ≡ things_left own n v.left
     pub out : v.has ≡ true → (v.ticket ≡ Some served) × (v.took ≡ Some value)
 

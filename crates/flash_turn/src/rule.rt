@@ -1,9 +1,9 @@
 // The rule of the table, and the names of its steps.
 ghost use Rattle.flash_turn.specs.Rule.{Kept};
-ghost use Rattle.flash_turn.specs.Steps.{first_view, split_left, split_right, Draws, Looks, Serves, Numbers, PutsBack};
+ghost use Rattle.flash_turn.specs.Steps.{first_view, split_left, split_right, Draws, Looks, Serves, Numbers, PutsBack, spent_view, joined_view, Compares};
 
 use crate::{Shared, View};
-use atomic_table::{Play, Split, TableRule};
+use atomic_table::{Join, Play, Split, TableRule};
 use std::marker::PhantomData;
 use std::snapshot::Snapshot;
 
@@ -67,4 +67,22 @@ impl<T> Split<View<T>> for Part {
     ghost left = { split_left };
 
     ghost right = { split_right };
+}
+
+/// A pass takes in what another has.
+pub struct Both;
+
+impl<T> Join<View<T>> for Both {
+    ghost both = { joined_view };
+
+    ghost spent = { spent_view };
+}
+
+/// What a joined pass had seen is compared with what this one saw.
+pub struct Compare<T> {
+    marker: PhantomData<T>,
+}
+
+impl<T: Shared> Play<Slot<T>, View<T>> for Compare<T> {
+    ghost then = { λ step. Compares T.story T.own T.fixed };
 }

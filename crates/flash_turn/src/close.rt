@@ -1,0 +1,34 @@
+ghost use Rattle.std.specs.Global.{Global};
+ghost use Rattle.flash_turn.specs.Passes.{IsPassOf};
+ghost use Rattle.flash_turn.specs.Closing.{Closes};
+
+use crate::{Pass, Shared, Turn};
+
+/// What closing a lock answers.
+#[derive(Drop)]
+pub enum Closing<T> {
+    /// The value.
+    Value(T),
+    /// A pass still held a ticket. Nothing is handed back.
+    Out,
+}
+
+impl<T: Shared + Drop> Turn<T> {
+    /// Ends the lock, and hands out the value where no pass holds a ticket.
+    pub fn close(self, pass: Pass<T>) -> Closing<T>
+        requires { IsPassOf T.fixed self pass }
+        ensures { Closes T.story T.own T.fixed Global self pass result }
+    {
+        let Turn { table, gate: _ } = self;
+        let Pass { seat, number: _ } = pass;
+        let mut closed = table.close_with(seat);
+        let tickets = closed.word(0);
+        let served = closed.word(1);
+        let slot = closed.take(0);
+        closed.free();
+        if tickets != served {
+            return Closing::Out;
+        }
+        Closing::Value(Box::into_inner(slot.unwrap()))
+    }
+}
