@@ -1,6 +1,7 @@
 -- What contracts say of a value that is out of its lock.
 use Rattle.std.specs.Prelude.{◌≡◌, ℕ, true, false, List, [], ◌∷◌, Some, None, Box}
 use Rattle.flash_turn.specs.declared.view.View.{View}
+use Rattle.flash_turn.specs.declared.pass.Pass.{Pass}
 use Rattle.flash_turn.specs.declared.turn.Turn.{Turn}
 use Rattle.flash_turn.specs.declared.held.HeldIn.{HeldIn}
 use Rattle.flash_turn.specs.Passes.{view_of}
@@ -13,12 +14,12 @@ value_of held = held.value.value
 abbrev pub taken_of : {T B : Type 0} → HeldIn T B → T
 taken_of held = held.taken.value
 
--- the lock, and the number of the pass
+-- the lock, and the pass that has the value out
 abbrev pub turn_of : {T B : Type 0} → HeldIn T B → Turn T
 turn_of held = held.turn.now
 
-abbrev pub number_of : {T B : Type 0} → HeldIn T B → ℕ
-number_of held = held.pass.now.number
+abbrev pub pass_of : {T B : Type 0} → HeldIn T B → Pass T
+pass_of held = held.pass.now
 
 -- the pass has a number and no other work than this value
 pub record IsHolding {T : Type 0} (number : ℕ) (v : View T) : Type 0 where

@@ -10,6 +10,9 @@ module _ {T : Type 0} where
   abbrev pub view_of : Pass T → View T
   view_of pass = pass.seat.me.0
 
+  abbrev pub number_of : Pass T → ℕ
+  number_of pass = pass.number
+
   -- the pass waits for nothing: it has a number, no ticket and no number drawn for another pass, and has seen a value
   pub record IsIdle (number : ℕ) (v : View T) : Type 0 where
     pub joined : List ℕ

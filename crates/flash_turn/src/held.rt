@@ -1,7 +1,7 @@
 ghost use Rattle.std.specs.Prelude.{◌≡◌, Some, Box};
 ghost use Rattle.flash_names.specs.Shared.{Begins, own_of, without};
-ghost use Rattle.flash_turn.specs.Passes.{seen, took_story, took_face, left_face, left_own, IsPassOf};
-ghost use Rattle.flash_turn.specs.HeldValues.{value_of, taken_of, turn_of, number_of, IsHeld};
+ghost use Rattle.flash_turn.specs.Passes.{number_of, seen, took_story, took_face, left_face, left_own, IsPassOf};
+ghost use Rattle.flash_turn.specs.HeldValues.{value_of, taken_of, turn_of, pass_of, IsHeld};
 
 use crate::rule::Serve;
 use crate::{Pass, Shared, Turn};
@@ -23,12 +23,12 @@ impl<'a, T: Shared> HeldIn<'a, T, Box<T>> {
     pub fn leave(self)
         requires held { IsHeld T.fixed self }
         requires story { Begins (T.story (taken_of self)) (T.story (value_of self)) }
-        requires own { without (number_of self) (T.own (value_of self)) ≡ without (number_of self) (T.own (taken_of self)) }
+        requires own { without (number_of (pass_of self)) (T.own (value_of self)) ≡ without (number_of (pass_of self)) (T.own (taken_of self)) }
         requires fixed { T.fixed (value_of self) ≡ T.fixed (taken_of self) }
         ensures pass { IsPassOf T.fixed (turn_of self.entry) self.exit.0.now }
-        ensures number { self.exit.0.now.number ≡ number_of self.entry }
+        ensures number { number_of self.exit.0.now ≡ number_of (pass_of self.entry) }
         ensures seen { seen T.story self.exit.0.now ≡ T.story (value_of self.entry) }
-        ensures own { left_own T.own self.exit.0.now ≡ own_of (number_of self.entry) (T.own (value_of self.entry)) }
+        ensures own { left_own T.own self.exit.0.now ≡ own_of (number_of (pass_of self.entry)) (T.own (value_of self.entry)) }
         ensures took_story { took_story T.story self.exit.0.now ≡ T.story (taken_of self.entry) }
         ensures took_face { took_face T.face self.exit.0.now ≡ Some (T.face (taken_of self.entry)) }
         ensures left_face { left_face T.face self.exit.0.now ≡ Some (T.face (value_of self.entry)) }

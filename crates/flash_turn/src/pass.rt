@@ -1,4 +1,5 @@
 ghost use Rattle.std.specs.Prelude.{◌≡◌};
+ghost use Rattle.flash_turn.specs.Passes.{number_of};
 
 use crate::View;
 use crate::rule::Slot;
@@ -14,7 +15,7 @@ pub struct Pass<T> {
 impl<T> Pass<T> {
     /// Its number, from 1 up to below 2^32 - 1. No two passes of one lock have the same.
     pub fn number(&self) -> u32
-        ensures { result ≡ self.now.number }
+        ensures { result ≡ number_of self.now }
     {
         self.number
     }

@@ -19,13 +19,13 @@ pub struct Turn<T: Shared> {
 }
 
 impl<T: Shared> Turn<T> {
-    ghost use Rattle.flash_turn.specs.Passes.{view_of, seen, left_own, fixed_of, IsPassOf, Meets};
-    ghost use Rattle.flash_turn.specs.HeldValues.{value_of, taken_of, turn_of, number_of, IsHolding, IsHeld};
+    ghost use Rattle.flash_turn.specs.Passes.{view_of, number_of, seen, left_own, fixed_of, IsPassOf, Meets};
+    ghost use Rattle.flash_turn.specs.HeldValues.{value_of, taken_of, turn_of, pass_of, IsHolding, IsHeld};
 
     /// The lock of this value, and its first pass.
     pub fn new(alloc: Global, value: T) -> Result<(Turn<T>, Pass<T>), T>
         requires { T.own value ≡ [] }
-        ensures made { IfOk result (λ made. IsPassOf T.fixed made.0 made.1 × (made.1.number ≡ 1) × (seen T.story made.1 ≡ T.story value) × (left_own T.own made.1 ≡ []) × (fixed_of T.fixed made.0 ≡ T.fixed value)) }
+        ensures made { IfOk result (λ made. IsPassOf T.fixed made.0 made.1 × (number_of made.1 ≡ 1) × (seen T.story made.1 ≡ T.story value) × (left_own T.own made.1 ≡ []) × (fixed_of T.fixed made.0 ≡ T.fixed value)) }
         ensures refused { IfErr result (λ back. back ≡ value) }
     {
         let start = Snapshot::of(&value);
@@ -49,11 +49,6 @@ impl<T: Shared> Turn<T> {
             Err(Refused { slots }) => Err(emptied(slots)),
         }
     }
-}
-
-impl<T: Shared> Turn<T> {
-    ghost use Rattle.flash_turn.specs.Passes.{view_of, seen, left_own, fixed_of, IsPassOf, Meets};
-    ghost use Rattle.flash_turn.specs.HeldValues.{value_of, taken_of, turn_of, number_of, IsHolding, IsHeld};
 
     /// Waits for its turn, and takes the value.
     pub fn enter<'a, R: Wait>(&'a self, rt: &R, pass: &'a mut Pass<T>) -> Held<'a, T>
@@ -61,7 +56,7 @@ impl<T: Shared> Turn<T> {
         ensures same_pass { result.pass.ghost_name ≡ pass.entry.ghost_name }
         ensures same_turn { turn_of result ≡ self.now }
         ensures held { IsHeld T.fixed result }
-        ensures number { number_of result ≡ pass.old.number }
+        ensures number { number_of (pass_of result) ≡ number_of pass.old }
         ensures value { value_of result ≡ taken_of result }
         ensures told { Meets T.story T.own T.fixed self.now pass.old (taken_of result) }
     {
@@ -81,8 +76,8 @@ impl<T: Shared> Turn<T> {
         requires { IsPassOf T.fixed self.now pass.old }
         ensures table { pass.new.seat.table_id ≡ pass.old.seat.table_id }
         ensures slot { pass.new.seat.me.1 ≡ (0, None) ∷ [] }
-        ensures number { pass.new.number ≡ pass.old.number }
-        ensures holding { IsHolding pass.new.number (view_of pass.new) }
+        ensures number { number_of pass.new ≡ number_of pass.old }
+        ensures holding { IsHolding (number_of pass.new) (view_of pass.new) }
         ensures took { (view_of pass.new).took ≡ Some result.value }
         ensures told { Meets T.story T.own T.fixed self.now pass.old result.value }
     {
