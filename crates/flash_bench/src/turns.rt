@@ -223,6 +223,13 @@ pub fn measure<R: Threads + Wait + Sync + Clock + Print>(
     choice: &str,
 ) -> io::Result<()> {
     let (doublings, load) = match choice {
+        "uncontended" => (
+            0,
+            Load {
+                turns: 5_000_000,
+                steps: 0,
+            },
+        ),
         "4" => (
             2,
             Load {
@@ -237,13 +244,7 @@ pub fn measure<R: Threads + Wait + Sync + Clock + Print>(
                 steps: STEPS,
             },
         ),
-        _ => (
-            0,
-            Load {
-                turns: 5_000_000,
-                steps: 0,
-            },
-        ),
+        _ => return println!(rt; "turns: uncontended, 4 or 16"),
     };
     for _ in 0..ROUNDS {
         let by_lock = time_turns(rt, alloc, doublings, load)?;

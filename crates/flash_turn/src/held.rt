@@ -7,10 +7,11 @@ use crate::rule::Serve;
 use crate::{Pass, Shared, Turn};
 use std::snapshot::Snapshot;
 
-/// The value out of its lock. It has to be given back by `leave`.
+/// The value out of its lock, which `Turn::enter` gives and `leave` takes back. It can't be dropped.
 pub type Held<'a, T> = HeldIn<'a, T, Box<T>>;
 
-/// The value in a holder `B`.
+/// The same with the value in a holder `B`: the contract of `leave` can name the pass only where the type of the
+/// holder is a parameter.
 pub struct HeldIn<'a, T: Shared, B> {
     pub(crate) pass: &'a mut Pass<T>,
     pub(crate) turn: &'a Turn<T>,
@@ -19,7 +20,9 @@ pub struct HeldIn<'a, T: Shared, B> {
 }
 
 impl<'a, T: Shared> HeldIn<'a, T, Box<T>> {
-    /// Gives the value back, and serves the next ticket.
+    /// Gives the value back, and serves the next ticket. Since it was taken, the story has only grown, and neither
+    /// the things of other numbers nor the fixed part have changed. Afterwards the pass has seen the whole story, and
+    /// keeps the story and the face that it took and the face that it left.
     pub fn leave(self)
         requires held { IsHeld T.fixed self }
         requires story { Begins (T.story (taken_of self)) (T.story (value_of self)) }

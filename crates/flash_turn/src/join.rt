@@ -5,8 +5,9 @@ use crate::rule::{Both, Compare};
 use crate::{Pass, Shared, Turn};
 
 impl<T: Shared> Pass<T> {
-    /// Takes in another pass of this lock: what either has seen, this one has seen then. The number of the other
-    /// is not given again.
+    /// Takes in another pass of this lock: this one has then seen the longer of both stories, which begins with
+    /// either. It keeps its number and what it left. The two numbers were different, and the other's isn't given
+    /// again.
     pub fn join(&mut self, turn: &Turn<T>, other: Pass<T>)
         requires own { IsPassOf T.fixed turn.now self.old }
         requires other { IsPassOf T.fixed turn.now other }

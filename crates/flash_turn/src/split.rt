@@ -18,7 +18,8 @@ pub enum Split<T> {
 }
 
 impl<T: Shared> Pass<T> {
-    /// Splits off a pass under a number that was never given before. It has seen what this one saw.
+    /// Splits off a pass under a number that was never given before. It has seen what this one saw, and has left
+    /// nothing yet. `Used` comes exactly where the number that was drawn is at or above 2^32 - 1.
     pub fn split(&mut self, turn: &Turn<T>) -> Split<T>
         requires { IsPassOf T.fixed turn.now self.old }
         ensures pass { IsPassOf T.fixed turn.now self.new }

@@ -10,7 +10,7 @@ use std::snapshot::Snapshot;
 use std::sync::Wait;
 use std::thread::yield_now;
 
-/// A value that threads change in turn.
+/// A value that threads change in turn, in a box, under tickets.
 #[derive(Drop)]
 pub struct Turn<T: Shared> {
     pub(crate) table: Table<Slot<T>, View<T>, Snapshot<T>, Rule<T>, Global>,
@@ -22,7 +22,8 @@ impl<T: Shared> Turn<T> {
     ghost use Rattle.flash_turn.specs.Passes.{view_of, number_of, seen, left_own, fixed_of, IsPassOf, Meets};
     ghost use Rattle.flash_turn.specs.HeldValues.{value_of, taken_of, turn_of, pass_of, IsHolding, IsHeld};
 
-    /// The lock of this value, and its first pass.
+    /// The lock of this value, and its first pass, which has the number 1 and has seen the whole story. The value
+    /// owns nothing yet for any number. Where there is no memory, the value comes back.
     pub fn new(alloc: Global, value: T) -> Result<(Turn<T>, Pass<T>), T>
         requires { T.own value ≡ [] }
         ensures made { IfOk result (λ made. IsPassOf T.fixed made.0 made.1 × (number_of made.1 ≡ 1) × (seen T.story made.1 ≡ T.story value) × (left_own T.own made.1 ≡ []) × (fixed_of T.fixed made.0 ≡ T.fixed value)) }
@@ -50,7 +51,8 @@ impl<T: Shared> Turn<T> {
         }
     }
 
-    /// Waits for its turn, and takes the value.
+    /// Waits for its turn, and takes the value: its story begins with all that the pass has seen, the things of the
+    /// pass's number are as it left them, and the fixed part is that of the value that the lock was made of.
     pub fn enter<'a, R: Wait>(&'a self, rt: &R, pass: &'a mut Pass<T>) -> Held<'a, T>
         requires { IsPassOf T.fixed self.now pass.old }
         ensures same_pass { result.pass.ghost_name ≡ pass.entry.ghost_name }
