@@ -8,6 +8,7 @@ pub mod Lending
 pub mod ListClock
 pub mod MemorySink
 pub mod MemorySource
+pub mod Shared
 pub mod Source
 pub mod Numbers
 pub mod Told

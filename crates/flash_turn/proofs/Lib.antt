@@ -1,0 +1,12 @@
+mod Ending
+mod Entering
+mod Handed
+mod Joined
+mod Joining
+mod Leaving
+mod Lists
+mod Numbers
+mod Opening
+mod Queues
+mod Splitting
+mod Totals

@@ -1,0 +1,12 @@
+pub mod Closing
+pub mod Counts
+pub mod HeldValues
+pub mod Joining
+pub mod Lending
+pub mod Next
+pub mod Numbered
+pub mod Passes
+pub mod Queue
+pub mod Rule
+pub mod Splitting
+pub mod Steps

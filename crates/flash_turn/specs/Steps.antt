@@ -1,0 +1,77 @@
+-- What each step tells the pass that makes it: `m` is what it was, `r` what the step found, and `n` what it is.
+use Rattle.std.specs.Prelude.{◌≡◌, ◌≢◌, ℕ, ◌%◌, ◌^◌, ◌<◌, ◌≤◌, true, false, List, [], ◌∷◌, ◌++◌, Option, Some, None, Box, nat_lt, if◌then◌else◌}
+use Rattle.atomic_table.specs.Table.{Me}
+use Rattle.flash_names.specs.Shared.{Begins, told_length, own_of}
+use Rattle.flash_turn.specs.declared.view.View.{View}
+use Rattle.std.specs.Option.{unwrap_or}
+use Rattle.flash_turn.specs.Counts.{times}
+use Rattle.flash_turn.specs.Next.{IsNext}
+use Rattle.flash_turn.specs.Numbered.{limit}
+use Rattle.flash_turn.specs.Rule.{things_left}
+
+-- the first pass: number 1, which has seen the value
+abbrev pub first_view : {T : Type 0} → T → View T
+first_view value = record { numbers = 1 ∷ []; spare = None; over = false; ticket = None; has = false; seen = Some value; met = None; took = None; left = None }
+
+-- a pass that was split off under the number n, and has seen what the other had seen
+abbrev pub new_view : {T : Type 0} → ℕ → Option T → View T
+new_view n seen = record { numbers = n ∷ []; spare = None; over = false; ticket = None; has = false; seen = seen; met = None; took = None; left = None }
+
+-- the number that a pass had drawn went to the pass that was split off
+abbrev pub split_left : {T : Type 0} → View T → View T
+split_left v = record v { spare = None }
+
+abbrev pub split_right : {T : Type 0} → View T → View T
+split_right v = new_view (unwrap_or v.spare 0) v.seen
+
+-- a pass that was joined to another
+abbrev pub spent_view : {T : Type 0} → View T
+spent_view = record { numbers = []; spare = None; over = false; ticket = None; has = false; seen = None; met = None; took = None; left = None }
+
+-- the pass that joins another has its numbers too, and has met what that one had seen
+abbrev pub joined_view : {T : Type 0} → View T → View T → View T
+joined_view v w = record v { numbers = v.numbers ++ w.numbers; met = w.seen }
+
+-- the value with the longer story
+abbrev pub with_longer : {T E : Type 0} → (T → Option (List E)) → Option T → Option T → Option T
+with_longer story None b = b
+with_longer story (Some x) None = Some x
+with_longer story (Some x) (Some y) = if nat_lt (told_length (story x)) (told_length (story y)) then Some y else Some x
+
+-- what a pass knows of the lock, and the slots that it holds
+abbrev pub Self : Type 0 → Type 0 → Type 0
+Self T A = Me (Option (Box T A)) (View T)
+
+module _ {T A : Type 0} where
+  -- a ticket was drawn: the number found is the ticket's remainder
+  abbrev pub Draws : Self T A → ℕ → Self T A → Type 0
+  Draws m r n = (k : ℕ) × (r ≡ k % 2 ^ 64) × (n ≡ (record m.0 { ticket = Some k }, m.1))
+
+  -- the value in the slot was given back, and the next ticket is served
+  abbrev pub Serves : Self T A → ℕ → Self T A → Type 0
+  Serves m r n = (b : Box T A) → m.1 ≡ (0, Some b) ∷ [] → n ≡ (record m.0 { ticket = None; has = false; seen = Some b.value; left = Some b.value }, [])
+
+  -- a number that was too large was put back
+  abbrev pub PutsBack : Self T A → ℕ → Self T A → Type 0
+  PutsBack m r n = n ≡ (record m.0 { over = false }, m.1)
+
+module _ {T E O F A : Type 0} (story : T → Option (List E)) (own : T → List (ℕ × O)) (fixed : T → F) where
+  -- the value was taken: its story begins with what was seen, its fixed part is known, and the things of the pass are as it left them
+  abbrev pub Takes : Self T A → Self T A → Type 0
+  Takes m n = (b : Box T A) × (n ≡ (record m.0 { has = true; took = Some b.value }, (0, Some b) ∷ []))
+      × ((x : T) → m.0.seen ≡ Some x → Begins (story x) (story b.value) × (fixed b.value ≡ fixed x))
+      × ((k : ℕ) (joined : List ℕ) → m.0.numbers ≡ k ∷ joined → own_of k (own b.value) ≡ things_left own k m.0.left)
+
+  -- a number was drawn: below the limit it is for a new pass, else it has to be put back
+  abbrev pub Numbers : Self T A → ℕ → Self T A → Type 0
+  Numbers m r n = (r < limit → n ≡ (record m.0 { spare = Some r }, m.1)) × (limit ≤ r → n ≡ (record m.0 { over = true }, m.1)) × IsNext story own fixed A m.0 r
+
+  -- where its ticket is served the value was taken, and else nothing changed
+  abbrev pub Looks : Self T A → ℕ → Self T A → Type 0
+  Looks m r n = (k : ℕ) → m.0.ticket ≡ Some k → (r ≡ k % 2 ^ 64 → Takes m n) × (r ≢ k % 2 ^ 64 → n ≡ m)
+
+  -- of what was seen and what was met the longer story is seen, and begins with both; and no number stands twice among the pass's
+  abbrev pub Compares : Self T A → ℕ → Self T A → Type 0
+  Compares m r n = (n ≡ (record m.0 { seen = with_longer story m.0.seen m.0.met; met = None }, m.1))
+      × ((x y : T) → m.0.seen ≡ Some x → m.0.met ≡ Some y → (z : T) × (with_longer story m.0.seen m.0.met ≡ Some z) × Begins (story x) (story z) × Begins (story y) (story z) × (fixed z ≡ fixed x))
+      × ((k : ℕ) → times k m.0.numbers ≤ 1)

@@ -1,0 +1,24 @@
+//! One value that threads change in turn: a ticket lock whose passes remember what they saw of the value.
+#![tactic(auto)]
+
+mod close;
+mod gate;
+mod held;
+mod join;
+mod lends;
+mod pass;
+mod rule;
+mod split;
+mod turn;
+mod view;
+
+pub use close::Closing;
+pub use flash_names::Shared;
+pub use held::{Held, HeldIn};
+pub use pass::Pass;
+pub use split::Split;
+pub use turn::Turn;
+pub use view::View;
+
+#[cfg(test)]
+mod tests;
