@@ -2,6 +2,7 @@
 #![tactic(auto)]
 
 mod command;
+mod examples;
 mod fault;
 mod line;
 mod output;
@@ -12,6 +13,7 @@ mod script;
 mod session;
 mod step;
 
+pub use examples::worked_example;
 pub use fault::{ScriptFault, Status, Why};
 pub use run::run_trace;
 

@@ -1,0 +1,79 @@
+-- The commands of a session's bytes. The reader takes one byte after another, so that it doesn't matter in
+-- which pieces they come.
+use Rattle.std.specs.Prelude.{ℕ, ◌+◌, Bool, ◌&&◌, nat_eq, nat_le, nat_lt, ◌==◌, List, [], ◌∷◌, ◌++◌, length, if◌then◌else◌}
+use Rattle.flash_trace.specs.Lines.{SetLine, Line, Get, Set, Unknown, line_of}
+
+-- a command that is read whole: a lookup, a store with its block, or a refusal
+pub data Command : Type 0 where
+  Look : List ℕ → Command
+  Store : SetLine → List ℕ → Command
+  UnknownLine : Command
+  BadChunk : Command
+
+-- where the reader stands: in a line; in a block; behind one, where a line end has to stand; in what is skipped
+-- behind a bad data chunk; or at its end
+pub data Reader : Type 0 where
+  InLine : List ℕ → Reader
+  InBlock : SetLine → List ℕ → Reader
+  Behind : SetLine → List ℕ → List ℕ → Reader
+  Skipping : ℕ → Reader
+  Closed : Reader
+
+-- the commands that were read, and where the reader stands
+abbrev pub Read : Type 0
+Read = List Command × Reader
+
+-- the reader in front of a block: one of no bytes is whole at once
+abbrev pub block_of : SetLine → Reader
+block_of line = if nat_eq line.size 0 then Behind line [] [] else InBlock line []
+
+-- the end of a line
+abbrev pub line_read : Line → Read
+line_read (Get key) = (Look key ∷ [], InLine [])
+line_read (Set line) = ([], block_of line)
+line_read Unknown = (UnknownLine ∷ [], InLine [])
+
+-- a byte in a line: 65,536 of them without a line feed end the session
+abbrev pub in_line : ℕ → List ℕ → ℕ → Read
+in_line item_max line b =
+    if b == 10 then line_read (line_of item_max line) else ([], (if nat_lt (length line + 1) 65536 then InLine (line ++ b ∷ []) else Closed))
+
+-- a byte in a skip: the line feed ends it
+abbrev pub in_skip : ℕ → ℕ → Reader
+in_skip skipped b = if b == 10 then InLine [] else if nat_lt (skipped + 1) 65536 then Skipping (skipped + 1) else Closed
+
+-- the two bytes behind a bad block: the skip begins with them, and what stands behind its end is a line
+abbrev pub after_skip : ℕ → Reader → ℕ → Read
+after_skip item_max (InLine line) b = in_line item_max line b
+after_skip item_max (Skipping n) b = ([], in_skip n b)
+after_skip item_max r b = ([], r)
+
+abbrev pub bad_chunk : Read → Read
+bad_chunk read = (BadChunk ∷ read.0, read.1)
+
+-- the second byte behind a block
+abbrev pub behind_block : ℕ → SetLine → List ℕ → ℕ → ℕ → Read
+behind_block item_max line block a b =
+    if (a == 13) && (b == 10) then (Store line block ∷ [], InLine []) else bad_chunk (after_skip item_max (in_skip 0 a) b)
+
+abbrev pub behind_byte : ℕ → SetLine → List ℕ → List ℕ → ℕ → Read
+behind_byte item_max line block [] b = ([], Behind line block (b ∷ []))
+behind_byte item_max line block (a ∷ _) b = behind_block item_max line block a b
+
+-- one byte
+abbrev pub read_byte : ℕ → Reader → ℕ → Read
+read_byte item_max (InLine line) b = in_line item_max line b
+read_byte item_max (InBlock line block) b = ([], (if nat_lt (length block + 1) line.size then InBlock line (block ++ b ∷ []) else Behind line (block ++ b ∷ []) []))
+read_byte item_max (Behind line block two) b = behind_byte item_max line block two b
+read_byte item_max (Skipping n) b = ([], in_skip n b)
+read_byte item_max Closed b = ([], Closed)
+
+-- the commands of more bytes, from where the reader stands
+abbrev pub read_from : ℕ → Reader → List ℕ → Read
+read_from item_max r [] = ([], r)
+read_from item_max r (b ∷ bytes) =
+    let first = read_byte item_max r b in let rest = read_from item_max first.1 bytes in (first.0 ++ rest.0, rest.1)
+
+-- the commands of a session's bytes, and where the reader stands behind them
+abbrev pub commands : ℕ → List ℕ → Read
+commands item_max bytes = read_from item_max (InLine []) bytes

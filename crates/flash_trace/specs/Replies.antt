@@ -1,0 +1,39 @@
+-- The text of each reply (memcached's doc/protocol.txt).
+use Rattle.std.specs.Prelude.{ℕ, List, [], ◌∷◌, ◌++◌, codes, decimal}
+use Rattle.flash_entry.specs.declared.answer.Stored.{Stored}
+use Rattle.flash_entry.specs.declared.answer.Stored.TheVariants as stored
+use Rattle.flash_entry.specs.declared.found.Found2.{Found2}
+use Rattle.flash_entry.specs.declared.found.Found2.TheVariants as found
+use Rattle.flash_entry.specs.declared.found.Told.{Told}
+use Rattle.flash_entry.specs.declared.found.Told.TheVariants as told
+use Rattle.flash_trace.specs.Commands.{Command, Look, Store, UnknownLine, BadChunk}
+
+-- a line with its end
+abbrev pub reply_line : List ℕ → List ℕ
+reply_line text = text ++ 13 ∷ 10 ∷ []
+
+abbrev pub stored_line : Stored → List ℕ
+stored_line (stored.Stored cas) = reply_line (codes "STORED")
+stored_line stored.NotStored = reply_line (codes "NOT_STORED")
+stored_line stored.Exists = reply_line (codes "EXISTS")
+stored_line stored.NotFound = reply_line (codes "NOT_FOUND")
+stored_line stored.TooLarge = reply_line (codes "SERVER_ERROR object too large for cache")
+stored_line stored.NoNumber = reply_line (codes "SERVER_ERROR numbers used up")
+
+-- the block of a hit; a miss has none
+abbrev pub found_block : List ℕ → Found2 → List ℕ
+found_block key (found.Hit hit) =
+    reply_line (codes "VALUE " ++ key ++ 32 ∷ decimal hit.head.flags ++ 32 ∷ decimal hit.head.size) ++ reply_line hit.value
+found_block key _ = []
+
+-- the reply to a step of a command, by its outcome; the last step of a lookup carries its end
+abbrev pub step_text : Command → Told → List ℕ
+step_text (Look key) (told.Found outcome) = found_block key outcome ++ reply_line (codes "END")
+step_text (Store line block) (told.Stored answer) = stored_line answer
+step_text _ _ = reply_line (codes "SERVER_ERROR out of memory")
+
+-- the reply to a command that makes no step
+abbrev pub plain_text : Command → List ℕ
+plain_text UnknownLine = reply_line (codes "ERROR")
+plain_text BadChunk = reply_line (codes "CLIENT_ERROR bad data chunk")
+plain_text _ = []
