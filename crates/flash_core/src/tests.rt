@@ -1,7 +1,7 @@
-ghost use Rattle.std.specs.Prelude.{◌≡◌, None, IfOk};
+ghost use Rattle.std.specs.Prelude.{◌≡◌, [], None, Some, IfOk};
 
 use super::*;
-use flash_entry::{Counted, Look, Mode, Put, Stored};
+use flash_entry::{Counted, Kept, Look, Mode, Put, Stored};
 use flash_names::{Blob, Geometry, Id, Key};
 use std::alloc::{AllocError, Global};
 use std::test::Fail;
@@ -25,7 +25,9 @@ const LOOK: Look = Look {
     renew: None,
 };
 
-fn id(seq: u64) -> Id {
+fn id(seq: u64) -> Id
+    ensures { result ≡ record { pass = 1; seq = seq } }
+{
     Id { pass: 1, seq }
 }
 
@@ -48,6 +50,12 @@ fn open_counted(alloc: Global) -> Result<Core<Counted>, AllocError>
     ensures { IfOk result (λ core. core.told ≡ None) }
 {
     Core::open(alloc, GEOMETRY, Counted::new()).map_err(|_| AllocError)
+}
+
+fn open_kept(alloc: Global) -> Result<Core<Kept>, AllocError>
+    ensures { IfOk result (λ core. core.told ≡ Some []) }
+{
+    Core::open(alloc, GEOMETRY, Kept::new(alloc)).map_err(|_| AllocError)
 }
 
 // The value that a lookup finds, if it finds one.
@@ -162,5 +170,22 @@ fn clock_never_falls(rt: HostRuntime) -> Result<(), Fail> {
     for (reading, rose) in table {
         assert_eq!(rt; core.clock(reading)?, rose, "{reading}");
     }
+    Ok(())
+}
+
+#[test]
+fn keeps_its_journal(rt: HostRuntime) -> Result<(), Fail> {
+    let alloc = rt.alloc();
+    let mut stored = open_kept(alloc)?;
+    let set = put(alloc, Mode::Set, 0, b"x")?;
+    assert_eq!(rt; stored.store(alloc, id(1), &set)?, Stored::Stored(1));
+    assert_eq!(rt; stored.journal().entries().len(), 1);
+    let mut looked = open_kept(alloc)?;
+    let found = looked.look(alloc, id(1), &key(b"a")?, LOOK)?;
+    assert_eq!(rt; value_of(&found), None);
+    assert_eq!(rt; looked.into_journal().entries().len(), 1);
+    let mut clocked = open_kept(alloc)?;
+    assert!(rt; clocked.clock(7)?);
+    assert_eq!(rt; clocked.journal().entries().len(), 1);
     Ok(())
 }
