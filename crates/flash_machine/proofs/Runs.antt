@@ -21,7 +21,7 @@ module _ (g : Geometry) where
   LegalFrom-append h c (x ∷ xs) ys first behind = (
     first.0,
     LegalFrom-append (h ++ x ∷ []) (next g h c x) xs ys first.1
-      (subst (λ (j : List Entry). LegalFrom g j (cache_from g (h ++ x ∷ []) (next g h c x) xs) ys) (sym (append_assoc h (x ∷ []) xs)) behind),
+        (subst (λ (j : List Entry). LegalFrom g j (cache_from g (h ++ x ∷ []) (next g h c x) xs) ys) (sym (append_assoc h (x ∷ []) xs)) behind),
   )
 
   -- the front of legal entries is legal

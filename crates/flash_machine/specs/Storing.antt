@@ -39,7 +39,7 @@ plain_item c put = record {
   deadline = deadline put.exptime c.now;
   fetched = false;
   access = c.now;
-  label = None
+  label = None;
 }
 
 -- an item with another value, which keeps its flags and its deadline
