@@ -3,11 +3,11 @@ mod Keys
 mod Kept
 mod Lists
 mod Looked
-mod News
+pub mod News
 mod Pairs
 mod Positions
-mod Steps
+pub mod Steps
 mod StoreDone
 mod Stored
-mod Sweeps
-mod Told
+pub mod Sweeps
+pub mod Told

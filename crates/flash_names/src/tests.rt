@@ -33,132 +33,155 @@ const LARGE: Geometry = Geometry {
     recache: 4_294_967_295,
 };
 
+// The number of the first rule that the geometry breaks.
+fn first_broken(geometry: &Geometry) -> Option<u32> {
+    geometry.check().err().map(|bad| bad.rule)
+}
+
 #[test]
-fn names_the_first_broken_rule(rt: HostRuntime) {
+fn takes_the_borders(rt: HostRuntime) {
+    assert_eq!(rt; first_broken(&SMALL), None);
+    assert_eq!(rt; first_broken(&LARGE), None);
+}
+
+#[test]
+fn bounds_the_sizes(rt: HostRuntime) {
     let table = [
-        (SMALL, None),
-        (LARGE, None),
         (
             Geometry {
                 item_size: 63,
                 buffers: 2,
                 ..SMALL
             },
-            Some(1),
+            1,
         ),
         (
             Geometry {
                 buffer_size: 63,
                 ..SMALL
             },
-            Some(2),
+            2,
         ),
         (
             Geometry {
                 buffer_size: 0,
                 ..SMALL
             },
-            Some(2),
+            2,
         ),
         (
             Geometry {
                 buffer_size: 4_194_305,
                 ..LARGE
             },
-            Some(2),
+            2,
         ),
         (
             Geometry {
                 page_size: 96,
                 ..SMALL
             },
-            Some(3),
+            3,
         ),
         (
             Geometry {
                 page_size: 0,
                 ..SMALL
             },
-            Some(3),
+            3,
         ),
         (
             Geometry {
                 page_size: 71_303_168,
                 ..LARGE
             },
-            Some(3),
+            3,
         ),
-        (Geometry { pages: 2, ..SMALL }, Some(4)),
+    ];
+    for (geometry, broken) in table {
+        assert_eq!(rt; first_broken(&geometry), Some(broken), "{geometry:?}");
+    }
+}
+
+#[test]
+fn bounds_the_counts(rt: HostRuntime) {
+    let table = [
+        (Geometry { pages: 2, ..SMALL }, 4),
         (
             Geometry {
                 pages: 4097,
                 ..LARGE
             },
-            Some(4),
+            4,
         ),
         (
             Geometry {
                 buffers: 2,
                 ..SMALL
             },
-            Some(5),
+            5,
         ),
         (
             Geometry {
                 buffers: 65,
                 ..LARGE
             },
-            Some(5),
+            5,
         ),
         (
             Geometry {
                 item_max: 1025,
                 ..SMALL
             },
-            Some(6),
+            6,
         ),
         (
             Geometry {
                 item_max: 1_047_553,
                 ..LARGE
             },
-            Some(6),
+            6,
         ),
         (
             Geometry {
                 memory: 4_294_967_297,
                 ..LARGE
             },
-            Some(7),
+            7,
         ),
+    ];
+    for (geometry, broken) in table {
+        assert_eq!(rt; first_broken(&geometry), Some(broken), "{geometry:?}");
+    }
+}
+
+#[test]
+fn bounds_the_parts(rt: HostRuntime) {
+    let table = [
         (
             Geometry {
                 compact_under: 4,
                 ..SMALL
             },
-            Some(8),
+            8,
         ),
         (
             Geometry {
                 drop_under: 4,
                 ..SMALL
             },
-            Some(9),
+            9,
         ),
         (
             Geometry {
                 max_frag: 101,
                 ..SMALL
             },
-            Some(10),
+            10,
         ),
     ];
     for (geometry, broken) in table {
-        assert_eq!(rt;
-            geometry.check().err().map(|bad| bad.rule),
-            broken,
-            "{geometry:?}"
-        );
+        assert_eq!(rt; first_broken(&geometry), Some(broken), "{geometry:?}");
     }
 }
 

@@ -2,6 +2,7 @@
 //! library.
 #![tactic(auto)]
 
+use flash_device::FaultlessDevice;
 use flash_names::{Blob, ReaderSource, WriterSink};
 use flash_trace::{Status, run_trace};
 use std::alloc::{AllocError, Global};
@@ -22,7 +23,7 @@ usage: flash_server trace [--journal] < SCRIPT
   --journal   write the journal of the store too
 
 exit status: 0 done, 2 usage, 3 a bad line in the script, 4 standard input failed,
-5 standard output failed, 7 out of memory
+5 standard output failed, 6 the device failed, 7 out of memory
 ";
 
 const VERSION: &str = "flash_server 1.6-flash\n";
@@ -37,6 +38,8 @@ const SCRIPT_FAULT: u8 = 3;
 const SOURCE_FAULT: u8 = 4;
 
 const SINK_FAULT: u8 = 5;
+
+const PREPARE_FAULT: u8 = 6;
 
 const NO_MEMORY: u8 = 7;
 
@@ -74,12 +77,14 @@ fn run(rt: &HostRuntime, words: &[Blob]) -> u8 {
 fn trace(rt: &HostRuntime, words: &[Blob]) -> u8 {
     let mut source = ReaderSource::new(rt.reader());
     let mut sink = WriterSink::new(io::writer(rt));
-    match run_trace(rt.alloc(), words, &mut source, &mut sink) {
+    let mut device = FaultlessDevice::new(rt.alloc());
+    match run_trace(rt.alloc(), words, &mut source, &mut sink, &mut device) {
         Status::Done => DONE,
         Status::Usage => usage(rt),
         Status::Script(_) => SCRIPT_FAULT,
         Status::SourceFault => failed(rt, "standard input failed", SOURCE_FAULT),
         Status::SinkFault => failed(rt, "standard output failed", SINK_FAULT),
+        Status::PrepareFault => failed(rt, "the device failed", PREPARE_FAULT),
         Status::NoMemory => failed(rt, "out of memory", NO_MEMORY),
     }
 }

@@ -1,83 +1,142 @@
--- The numbers of the steps of a journal that goes on by a call.
-use Rattle.std.proofs.Common.{◌≡◌, ◌≢◌, ℕ, ◌+◌, ◌-◌, ◌<◌, ◌≤◌, Bool, true, false, if◌then◌else◌, List, [], ◌∷◌, ◌++◌, get_or, length, Option, None, Some, refl, sym, ◌∙◌, ap, subst, inl, inr, arith, get_or-set_other, get_or-set_same}
-use Rattle.std.specs.Prelude.{slice_index, slice_set}
+-- Numbers of steps are never given twice.
+use Rattle.std.proofs.Common.{◌≡◌, ◌≢◌, ℕ, ◌+◌, ◌≤◌, true, List, [], ◌∷◌, ◌++◌, length, Option, None, Some, refl, sym, ap, subst, inl, inr, arith}
+use Rattle.std.specs.Prelude.{nat_lt, codes}
 use Rattle.std.specs.List.{AllByRecursion}
-use Rattle.std.specs.FinMap as finite
-use Rattle.std.proofs.lemmas.Bool.{cases_eq}
-use Rattle.flash_names.specs.Told.{behind}
+use Rattle.std.proofs.lemmas.Bool.{cases_eq, cond_both}
 use Rattle.flash_names.specs.declared.place.Id.{Id}
-use Rattle.flash_entry.specs.declared.entry.Entry.{Entry}
-use Rattle.flash_machine.specs.Legal.{IsNew, IsEarlier, step_id}
-use Rattle.flash_core.specs.Sound.{IsNewTold}
 use Rattle.flash_names.specs.declared.geometry.Geometry.{Geometry}
-use Rattle.flash_entry.specs.declared.ask.Put.{Put}
+use Rattle.flash_entry.specs.declared.ask.Ask.{Ask}
+use Rattle.flash_entry.specs.declared.ask.Ask.TheVariants as asks
 use Rattle.flash_entry.specs.declared.ask.Look.{Look}
-use Rattle.flash_machine.specs.Cache.{Cache}
-use Rattle.flash_core.specs.Store.{Desk, Call}
-use Rattle.flash_core.specs.Calls.{is_dead_at, sweep, store_call, look_call}
-use Rattle.flash_trace.specs.Numbers.{IsUpTo, AreUpTo, AreNumbered}
+use Rattle.flash_entry.specs.declared.entry.Entry.{Entry}
+use Rattle.flash_entry.specs.declared.entry.Entry.TheVariants as entries
+use Rattle.flash_machine.specs.Legal.{IsNew, IsEarlier, step_id}
+use Rattle.flash_core.specs.Store.{Call}
+use Rattle.flash_core.specs.Calls.{clock_call}
+use Rattle.flash_core.proofs.News.{new_behind}
+use Rattle.flash_trace.specs.declared.command.Command.{Command}
+use Rattle.flash_trace.specs.declared.command.Command.TheVariants.{Get, Store, Refused}
+use Rattle.flash_trace.specs.Answers.{done_ask}
+use Rattle.flash_trace.specs.Commands.{is_closed}
+use Rattle.flash_trace.specs.Playing.{Seat, Kept, Play, first_play, after_call, act, act_all, seat_at, with_seat, with_line, fed, run, clock, play_step}
+use Rattle.flash_trace.specs.Steps.{Step, Clock, Say, Run, IsSession, IsSeated}
+use Rattle.flash_trace.specs.Seats.{next_id, IsNumbered}
+use Rattle.flash_trace.proofs.Asked.{IsOf, AreOf, store_asked, look_asked}
+use Rattle.flash_trace.proofs.Lists.{all_map}
+use Rattle.flash_trace.proofs.Seating.{seat_is, seat_same, seat_other, kept_clock, seats_clock}
 
-module _ (numbers : List ℕ) (sixteen : length numbers ≡ 16) (session : ℕ) (some : 1 ≤ session) (within : session ≤ 16) (id : Id) (pass : id.pass ≡ session) (seq : id.seq ≡ slice_index numbers (session - 1) + 1) where
-  earlier : (other : Option Id) → IsUpTo numbers other → IsEarlier id other
-  earlier None up = tt
-  earlier (Some other) up = λ same.
-      let at : slice_index numbers (other.pass - 1) ≡ slice_index numbers (session - 1) = ap (λ (n : ℕ). slice_index numbers (n - 1)) (cc (same, pass)) in
-      omega (arith, up.1, at, seq)
+-- the number that an entry records is earlier
+abbrev IsBefore : Id → Entry → Type 0
+IsBefore id e = IsEarlier id (step_id e)
 
-  all_earlier : (h : List Entry) → AreUpTo numbers h → AllByRecursion (λ e. IsEarlier id (step_id e)) h
-  all_earlier [] up = tt
-  all_earlier (e ∷ h) up = (earlier (step_id e) up.0, all_earlier h up.1)
+-- an entry of an earlier step alone
+of_earlier : (id own : Id) (ask : Ask) → IsEarlier id (Some own) → (e : Entry) → IsOf own ask e → IsBefore id e
+of_earlier id own ask earlier (entries.Did step done) of = subst (λ (s : Id). IsEarlier id (Some s)) (ap (λ (s : Id × Ask). s.0) (sym (of (step, done_ask done) refl))) earlier
+of_earlier id own ask earlier (entries.Looked step key look seen) of = subst (λ (s : Id). IsEarlier id (Some s)) (ap (λ (s : Id × Ask). s.0) (sym (of (step, asks.Look key look) refl))) earlier
+of_earlier id own ask earlier _ of = tt
 
-  -- the session's next number is new
-  pub next_is_new : (told : Option (List Entry)) → AreNumbered told numbers → IsNewTold told id
-  next_is_new told numbered = λ h tells. record { pass = omega (arith, pass, some); seq = all_earlier h (numbered h tells) }
+-- a number is new behind the entries of an earlier step
+new_after : (h : List Entry) (id own : Id) (ask : Ask) (es : List Entry) → AreOf own ask es → IsEarlier id (Some own) → IsNew h id → IsNew (h ++ es) id
+new_after h id own ask es of earlier new = new_behind h id es new (all_map (IsOf own ask) (IsBefore id) (of_earlier id own ask earlier) es of)
 
-  abbrev more : List ℕ
-  more = slice_set numbers (session - 1) id.seq
+-- a greater number is new where this one is
+module _ (pass seq more : ℕ) (le : seq ≤ more) where
+  earlier_more : (step : Option Id) → IsEarlier (record { pass = pass; seq = seq }) step → IsEarlier (record { pass = pass; seq = more }) step
+  earlier_more None earlier = tt
+  earlier_more (Some step) earlier = λ same. let was = earlier same in omega arith
 
-  at_next : (p : ℕ) → slice_index numbers p ≤ slice_index more p
-  at_next p = elim (cases_eq p (session - 1)) [
-    | inl same ↦
-        let high : session - 1 < length numbers = omega arith in
-        let there : slice_index more p ≡ id.seq = ap (λ (n : ℕ). slice_index more n) same ∙ get_or-set_same numbers (session - 1) id.seq 0 high in
-        let was : slice_index numbers p ≡ slice_index numbers (session - 1) = ap (λ (n : ℕ). slice_index numbers n) same in
-        omega (arith, there, was, seq)
-    | inr other ↦ let kept : slice_index more p ≡ slice_index numbers p = get_or-set_other numbers (session - 1) p id.seq 0 other in omega (arith, kept)
-  ]
+  new_more : (h : List Entry) → IsNew h (record { pass = pass; seq = seq }) → IsNew h (record { pass = pass; seq = more })
+  new_more h new = record {
+    pass = new.pass;
+    seq = all_map (IsBefore (record { pass = pass; seq = seq })) (IsBefore (record { pass = pass; seq = more })) (λ e earlier. earlier_more (step_id e) earlier) h new.seq;
+  }
 
-  still : (other : Option Id) → IsUpTo numbers other → IsUpTo more other
-  still None up = tt
-  still (Some other) up = (up.0, omega (arith, up.1, at_next (other.pass - 1)))
+-- behind the entries of a pass's step its next number is new
+next_new : (h : List Entry) (pass seq : ℕ) (ask : Ask) (es : List Entry) → AreOf (record { pass = pass; seq = seq }) ask es → IsNew h (record { pass = pass; seq = seq })
+    → IsNew (h ++ es) (record { pass = pass; seq = seq + 1 })
+next_new h pass seq ask es of new =
+    new_after h (record { pass = pass; seq = seq + 1 }) (record { pass = pass; seq = seq }) ask es of (λ same. omega arith) (new_more pass seq (seq + 1) (omega arith) h new)
 
-  all_still : (h : List Entry) → AreUpTo numbers h → AreUpTo more h
-  all_still [] up = tt
-  all_still (e ∷ h) up = (still (step_id e) up.0, all_still h up.1)
+-- another pass's number is new where it was
+other_new : (h : List Entry) (id own : Id) (ask : Ask) (es : List Entry) → id.pass ≢ own.pass → AreOf own ask es → IsNew h id → IsNew (h ++ es) id
+other_new h id own ask es other of new = new_after h id own ask es of (λ same. absurd (other (sym same))) new
 
-  own : IsUpTo more (Some id)
-  own =
-      let high : session - 1 < length numbers = omega arith in
-      let there : slice_index more (id.pass - 1) ≡ id.seq = ap (λ (n : ℕ). slice_index more (n - 1)) pass ∙ get_or-set_same numbers (session - 1) id.seq 0 high in
-      (omega (arith, pass, some), omega (arith, there))
+-- the number of a session's next step
+abbrev pub number_of : ℕ → Seat → Id
+number_of pass seat = record { pass = pass; seq = seat.last + 1 }
 
-  up_append : (h es : List Entry) → AreUpTo more h → AreUpTo more es → AreUpTo more (h ++ es)
-  up_append [] es first behind = behind
-  up_append (e ∷ h) es first behind = (first.0, up_append h es first.1 behind)
+-- how a session looks a key up
+abbrev pub plainly : Look
+plainly = record { value = true; renew = None }
 
-  by_test : (b : Bool) (x y : Call Bool) → AreUpTo more x.entries → AreUpTo more y.entries → AreUpTo more (if b then x else y).entries
-  by_test true x y first second = first
-  by_test false x y first second = second
+module _ (g : Geometry) (pass : ℕ) where
+  -- behind a command its session's next number is new
+  pub act_new : (state : Kept × Seat) (command : Command) → IsNew state.0.journal (number_of pass state.1)
+      → IsNew (act g pass state command).0.journal (number_of pass (act g pass state command).1)
+  act_new state (Get key) new =
+      next_new state.0.journal pass (state.1.last + 1) (asks.Look key plainly) _ (look_asked state.0.cache state.0.desk (number_of pass state.1) key plainly) new
+  act_new state (Store put) new =
+      next_new state.0.journal pass (state.1.last + 1) (asks.Store put) _ (store_asked state.0.cache state.0.desk (number_of pass state.1) g put) new
+  act_new state (Refused refusal) new = new
 
-  -- a sweep records no step
-  swept_up : (c : Cache) (desk : Desk) (key : List ℕ) → AreUpTo more (sweep c desk key).entries
-  swept_up c desk key = by_test (is_dead_at c (finite.get c.items key)) _ _ (tt, tt) tt
+  pub act_all_new : (state : Kept × Seat) (commands : List Command) → IsNew state.0.journal (number_of pass state.1)
+      → IsNew (act_all g pass state commands).0.journal (number_of pass (act_all g pass state commands).1)
+  act_all_new state [] new = new
+  act_all_new state (command ∷ more) new = act_all_new (act g pass state command) more (act_new state command new)
 
-  -- the journal with the entries of the session's next step
-  pub goes_on : (told : Option (List Entry)) (es : List Entry) → AreNumbered told numbers → AreUpTo more es → AreNumbered (behind es told) more
-  goes_on None es numbered up = λ h tells. absurd (cc tells)
-  goes_on (Some h) es numbered up = λ j tells. let one : h ++ es ≡ j = cc in subst (AreUpTo more) one (up_append h es (all_still h (numbered h refl)) up)
+  -- and another session's is where it was
+  act_other : (id : Id) (state : Kept × Seat) (command : Command) → id.pass ≢ pass → IsNew state.0.journal id → IsNew (act g pass state command).0.journal id
+  act_other id state (Get key) other new =
+      let own = number_of pass state.1 in other_new state.0.journal id own (asks.Look key plainly) _ other (look_asked state.0.cache state.0.desk own key plainly) new
+  act_other id state (Store put) other new =
+      let own = number_of pass state.1 in other_new state.0.journal id own (asks.Store put) _ other (store_asked state.0.cache state.0.desk own g put) new
+  act_other id state (Refused refusal) other new = new
 
-  pub store_up : (g : Geometry) (c : Cache) (desk : Desk) (put : Put) → AreUpTo more (store_call g c desk id put).entries
-  store_up g c desk put = up_append (sweep c desk put.key).entries _ (swept_up c desk put.key) (own, tt)
+  act_all_other : (id : Id) (state : Kept × Seat) (commands : List Command) → id.pass ≢ pass → IsNew state.0.journal id → IsNew (act_all g pass state commands).0.journal id
+  act_all_other id state [] other new = new
+  act_all_other id state (command ∷ more) other new = act_all_other id (act g pass state command) more other (act_other id state command other new)
 
-  pub look_up : (c : Cache) (desk : Desk) (key : List ℕ) (look : Look) → AreUpTo more (look_call c desk id key look).entries
-  look_up c desk key look = up_append (sweep c desk key).entries _ (swept_up c desk key) (own, tt)
+-- the next number of a session that was put in its place is new if its own is, and each other's where it stays new
+numbered_with : (p p2 : Play) (session : ℕ) (seat : Seat) → length p.seats ≡ 16 → IsSession session → p2.seats ≡ (with_seat p session seat).seats
+    → IsNew p2.kept.journal (number_of session seat)
+    → ((id : Id) → id.pass ≢ session → IsNew p.kept.journal id → IsNew p2.kept.journal id)
+    → IsNumbered p → IsNumbered p2
+numbered_with p p2 session seat sixteen is seats own others numbered other is_other = elim (cases_eq other session) [
+  | inl same ↦
+      let there : IsNew p2.kept.journal (next_id p2 session) = subst (λ (s : Seat). IsNew p2.kept.journal (number_of session s)) (sym (seat_same p p2 session seat sixteen is seats)) own in
+      subst (λ (n : ℕ). IsNew p2.kept.journal (next_id p2 n)) (sym same) there
+  | inr differ ↦
+      subst (λ (s : Seat). IsNew p2.kept.journal (number_of other s)) (sym (seat_other p p2 session seat sixteen is seats other is_other differ))
+      (others (next_id p other) differ (numbered other is_other))
+]
+
+-- a reading of the clock records no step
+clock_numbered : (p : Play) (line reading : ℕ) → IsNumbered p → IsNumbered (clock p line reading)
+clock_numbered p line reading numbered session is =
+    let call = clock_call p.kept.cache p.kept.desk reading in
+    let id = next_id p session in
+    let earlier : AllByRecursion (IsBefore id) call.entries =
+    cond_both (nat_lt p.kept.cache.now _) _ _ (λ (c : Call _). AllByRecursion (IsBefore id) c.entries) (λ rises. (tt, tt)) (λ stays. tt) in
+    subst (λ (k : Kept). IsNew k.journal (next_id (clock p line reading) session)) (sym (kept_clock p line reading))
+    (subst (λ (s : Seat). IsNew (after_call p.kept call).journal (number_of session s)) (sym (seat_is p (clock p line reading) session (seats_clock p line reading)))
+    (new_behind p.kept.journal id call.entries (numbered session is) earlier))
+
+-- each step keeps each session's next number new
+pub step_numbered : (g : Geometry) (p : Play) (line : ℕ) (step : Step) → length p.seats ≡ 16 → IsSeated step → IsNumbered p → IsNumbered (play_step g p line step)
+step_numbered g p line (Clock reading) sixteen seated numbered = clock_numbered p line reading numbered
+step_numbered g p line (Say session bytes) sixteen seated numbered =
+    let seat = seat_at p session in
+    let closed = with_line (with_seat p session seat) (codes "closed") line in
+    let reads = with_seat p session (fed g seat bytes) in
+    cond_both (is_closed seat.reader) closed reads IsNumbered
+    (λ is. numbered_with p closed session seat sixteen seated refl (numbered session seated) (λ id other new. new) numbered)
+    (λ is. numbered_with p reads session (fed g seat bytes) sixteen seated refl (numbered session seated) (λ id other new. new) numbered)
+step_numbered g p line (Run session) sixteen seated numbered =
+    let seat = seat_at p session in
+    let state : Kept × Seat = (p.kept, record seat { waiting = [] }) in
+    numbered_with p (run g p session) session (act_all g session state seat.waiting).1 sixteen seated refl (act_all_new g session state seat.waiting (numbered session seated))
+    (λ id other new. act_all_other g session id state seat.waiting other new) numbered
+
+-- before the first step
+pub first_numbered : IsNumbered first_play
+first_numbered session is = record { pass = is.some; seq = tt }

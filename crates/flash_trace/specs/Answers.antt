@@ -1,13 +1,12 @@
 -- The replies to a session's commands, read off the journal.
-use Rattle.std.specs.Prelude.{◌≡◌, ◌⊎◌, ℕ, ◌+◌, Bool, true, false, ◌&&◌, nat_eq, List, [], ◌∷◌, ◌++◌, Option, None, Some, if◌then◌else◌}
-use Rattle.std.specs.List.{AllByRecursion}
+use Rattle.std.specs.Prelude.{◌≡◌, ℕ, ◌+◌, ◌-◌, ◌≤◌, Bool, true, ◌&&◌, nat_eq, List, [], ◌∷◌, ◌++◌, length, drop, take, slice_get, Option, None, Some, IsSome, if◌then◌else◌}
+use Rattle.std.specs.List.{concat, filter_map, AllByRecursion}
+use Rattle.std.specs.Option.{ForSome}
 use Rattle.flash_names.specs.declared.place.Id.{Id}
 use Rattle.flash_names.specs.declared.geometry.Geometry.{Geometry}
 use Rattle.flash_entry.specs.declared.ask.Ask.{Ask}
 use Rattle.flash_entry.specs.declared.ask.Ask.TheVariants as asks
 use Rattle.flash_entry.specs.declared.ask.Look as looks
-use Rattle.flash_entry.specs.declared.ask.Put as puts
-use Rattle.flash_entry.specs.declared.ask.Mode.TheVariants as modes
 use Rattle.flash_entry.specs.declared.entry.Done.{Done}
 use Rattle.flash_entry.specs.declared.entry.Done.TheVariants as deeds
 use Rattle.flash_entry.specs.declared.entry.Entry.{Entry}
@@ -19,9 +18,14 @@ use Rattle.flash_machine.specs.Item.{Item}
 use Rattle.flash_machine.specs.Cache.{Cache, first_cache}
 use Rattle.flash_machine.specs.Live.{live_item}
 use Rattle.flash_machine.specs.Looking.{head_of_item}
+use Rattle.flash_machine.specs.Legal.{Legal}
 use Rattle.flash_machine.specs.Steps.{next}
-use Rattle.flash_trace.specs.Commands.{Command, Look, Store, UnknownLine, BadChunk}
+use Rattle.flash_trace.specs.declared.command.Command.{Command}
+use Rattle.flash_trace.specs.declared.command.Command.TheVariants.{Get, Store, Refused}
+use Rattle.flash_trace.specs.Commands.{commands_of}
+use Rattle.flash_trace.specs.Playing.{Seat, seat_at, play_of}
 use Rattle.flash_trace.specs.Replies.{step_text, plain_text}
+use Rattle.flash_trace.specs.Steps.{Step, Say, IsSession, AreSeated}
 
 abbrev pub same_id : Id → Id → Bool
 same_id a b = nat_eq a.pass b.pass && nat_eq a.seq b.seq
@@ -46,27 +50,40 @@ entry_outcome journal c id (entries.Did other done) = if same_id other id then S
 entry_outcome journal c id (entries.Looked other key look seen) = if same_id other id then Some (found_outcome c look (live_item journal c key)) else None
 entry_outcome journal c id _ = None
 
-abbrev pub first_outcome : Option Told → Told → Told
+-- the first of two outcomes that is there
+abbrev pub first_outcome : Option Told → Option Told → Option Told
 first_outcome None later = later
-first_outcome (Some outcome) later = outcome
+first_outcome (Some outcome) later = Some outcome
 
--- the outcome of a step, from the entries behind a journal: without an entry of its own it is want of memory
-abbrev pub outcome_from : Geometry → List Entry → Cache → Id → List Entry → Told
-outcome_from g journal c id [] = told.NoMemory
+-- the outcome of a step, from the entries behind a journal, if one of them is its own
+abbrev pub outcome_from : Geometry → List Entry → Cache → Id → List Entry → Option Told
+outcome_from g journal c id [] = None
 outcome_from g journal c id (e ∷ es) = first_outcome (entry_outcome journal c id e) (outcome_from g (journal ++ e ∷ []) (next g journal c e) id es)
+
+-- a step without an entry of its own had no memory
+abbrev pub or_no_memory : Option Told → Told
+or_no_memory None = told.NoMemory
+or_no_memory (Some outcome) = outcome
 
 -- the outcome of step seq of a pass
 abbrev pub outcome : Geometry → ℕ → ℕ → List Entry → Told
-outcome g pass seq journal = outcome_from g [] first_cache (record { pass = pass; seq = seq }) journal
+outcome g pass seq journal = or_no_memory (outcome_from g [] first_cache (record { pass = pass; seq = seq }) journal)
+
+-- the journal has an entry of this step, which gives its outcome
+abbrev pub IsKnown : Geometry → ℕ → ℕ → List Entry → Type 0
+IsKnown g pass seq journal = IsSome (outcome_from g [] first_cache (record { pass = pass; seq = seq }) journal)
 
 -- what a command asks of the store, if it asks
 abbrev pub ask_of : Command → Option Ask
-ask_of (Look key) = Some (asks.Look key (record { value = true; renew = None }))
-ask_of (Store line block) = Some (asks.Store (record { key = line.key; mode = modes.Set; flags = line.flags; exptime = line.exptime; compare = None; value = block }))
-ask_of UnknownLine = None
-ask_of BadChunk = None
+ask_of (Get key) = Some (asks.Look key (record { value = true; renew = None }))
+ask_of (Store put) = Some (asks.Store put)
+ask_of (Refused refusal) = None
 
--- the replies of these commands and of those behind them, whose first step has this number
+-- the steps of these commands, in order: the first has number 1
+abbrev pub asks_of : List Command → List Ask
+asks_of commands = filter_map ask_of commands
+
+-- the replies of a command and of those behind it, whose first step has this number
 abbrev pub reply_to : Geometry → ℕ → ℕ → List Entry → Command → Option Ask → (ℕ → List (List ℕ)) → List (List ℕ)
 reply_to g pass seq journal command None rest = plain_text command ∷ rest seq
 reply_to g pass seq journal command (Some ask) rest = step_text command (outcome g pass seq journal) ∷ rest (seq + 1)
@@ -78,3 +95,56 @@ answers_from g pass journal (command ∷ more) seq = reply_to g pass seq journal
 
 abbrev pub answers : Geometry → List Command → ℕ → List Entry → List (List ℕ)
 answers g commands pass journal = answers_from g pass journal commands 1
+
+-- the step that an entry records, with what was asked, if it records one
+abbrev pub done_ask : Done → Ask
+done_ask (deeds.Store put answer) = asks.Store put
+done_ask (deeds.Delete key compare answer) = asks.Delete key compare
+done_ask (deeds.Sum ask answer) = asks.Sum ask
+done_ask (deeds.Touch key exptime answer) = asks.Touch key exptime
+done_ask (deeds.Flush delay) = asks.Flush delay
+done_ask (deeds.Stats tally) = asks.Stats
+
+abbrev pub entry_ask : Entry → Option (Id × Ask)
+entry_ask (entries.Did id done) = Some (id, done_ask done)
+entry_ask (entries.Looked id key look seen) = Some (id, asks.Look key look)
+entry_ask _ = None
+
+-- where the step is one of the pass, it has the number and the ask of one of these
+abbrev pub IsOneOf : ℕ → List Ask → Id × Ask → Type 0
+IsOneOf pass steps step = step.0.pass ≡ pass → (1 ≤ step.0.seq) × (slice_get steps (step.0.seq - 1) ≡ Some step.1)
+
+-- each step of the pass in the journal has the number and the ask of a step of these commands
+abbrev pub Keeps : List Command → ℕ → List Entry → Type 0
+Keeps commands pass journal = AllByRecursion (λ e. ForSome (entry_ask e) (IsOneOf pass (asks_of commands))) journal
+
+-- the bytes that a script gives to a session
+abbrev pub bytes_for : ℕ → Step → List ℕ
+bytes_for session (Say other bytes) = if nat_eq other session then bytes ++ 13 ∷ 10 ∷ [] else []
+bytes_for session _ = []
+
+abbrev pub bytes_to : ℕ → List Step → List ℕ
+bytes_to session [] = []
+bytes_to session (step ∷ steps) = bytes_for session step ++ bytes_to session steps
+
+-- the commands but for so many at the end
+abbrev pub all_but : ℕ → List Command → List Command
+all_but n commands = take (length commands - n) commands
+
+-- What a session was answered, where it was given these bytes: its reader has read them all; the replies to the
+-- commands that it has done, in order, none left out, are what it was answered; each of their steps has an entry in
+-- the journal; and the journal has no other steps of it
+pub record IsAnswered (g : Geometry) (session : ℕ) (bytes : List ℕ) (journal : List Entry) (seat : Seat) : Type 0 where
+  pub read : seat.reader ≡ (commands_of g.item_max bytes).1
+  pub waiting : seat.waiting ≡ drop (length (commands_of g.item_max bytes).0 - length seat.waiting) (commands_of g.item_max bytes).0
+  pub said : seat.said ≡ concat (answers g (all_but (length seat.waiting) (commands_of g.item_max bytes).0) session journal)
+  pub known : (seq : ℕ) → 1 ≤ seq → seq ≤ length (asks_of (all_but (length seat.waiting) (commands_of g.item_max bytes).0)) → IsKnown g session seq journal
+  pub keeps : Keeps (all_but (length seat.waiting) (commands_of g.item_max bytes).0) session journal
+
+-- every script's journal is a run of the one-thread cache, and each of its sessions is answered
+pub record IsRight (g : Geometry) (steps : List Step) : Type 0 where
+  pub legal : Legal g (play_of g steps).kept.journal
+  pub answered : (session : ℕ) → IsSession session → IsAnswered g session (bytes_to session steps) (play_of g steps).kept.journal (seat_at (play_of g steps) session)
+
+abbrev pub EveryPlayIsRight : Type 0
+EveryPlayIsRight = (g : Geometry) (steps : List Step) → AreSeated steps → IsRight g steps

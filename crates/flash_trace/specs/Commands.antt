@@ -1,14 +1,15 @@
 -- The commands of a session's bytes. The reader takes one byte after another, so that it doesn't matter in
 -- which pieces they come.
-use Rattle.std.specs.Prelude.{ℕ, ◌+◌, Bool, ◌&&◌, nat_eq, nat_le, nat_lt, ◌==◌, List, [], ◌∷◌, ◌++◌, length, if◌then◌else◌}
-use Rattle.flash_trace.specs.Lines.{SetLine, Line, Get, Set, Unknown, line_of}
-
--- a command that is read whole: a lookup, a store with its block, or a refusal
-pub data Command : Type 0 where
-  Look : List ℕ → Command
-  Store : SetLine → List ℕ → Command
-  UnknownLine : Command
-  BadChunk : Command
+use Rattle.std.specs.Prelude.{ℕ, ◌+◌, Bool, true, false, ◌&&◌, nat_eq, nat_lt, ◌==◌, List, [], ◌∷◌, ◌++◌, length, None, if◌then◌else◌}
+use Rattle.flash_entry.specs.declared.ask.Mode.TheVariants as modes
+use Rattle.flash_entry.specs.declared.ask.Put.{Put}
+use Rattle.flash_trace.specs.declared.command.Refusal.TheVariants as refusals
+use Rattle.flash_trace.specs.declared.command.Command.{Command}
+use Rattle.flash_trace.specs.declared.command.Command.TheVariants as commands
+use Rattle.flash_trace.specs.declared.line.SetLine.{SetLine}
+use Rattle.flash_trace.specs.declared.line.Line.{Line}
+use Rattle.flash_trace.specs.declared.line.Line.TheVariants as lines
+use Rattle.flash_trace.specs.Lines.{line_of}
 
 -- where the reader stands: in a line; in a block; behind one, where a line end has to stand; in what is skipped
 -- behind a bad data chunk; or at its end
@@ -29,9 +30,9 @@ block_of line = if nat_eq line.size 0 then Behind line [] [] else InBlock line [
 
 -- the end of a line
 abbrev pub line_read : Line → Read
-line_read (Get key) = (Look key ∷ [], InLine [])
-line_read (Set line) = ([], block_of line)
-line_read Unknown = (UnknownLine ∷ [], InLine [])
+line_read (lines.Get key) = (commands.Get key ∷ [], InLine [])
+line_read (lines.Set line) = ([], block_of line)
+line_read lines.Unknown = (commands.Refused refusals.Unknown ∷ [], InLine [])
 
 -- a byte in a line: 65,536 of them without a line feed end the session
 abbrev pub in_line : ℕ → List ℕ → ℕ → Read
@@ -49,12 +50,16 @@ after_skip item_max (Skipping n) b = ([], in_skip n b)
 after_skip item_max r b = ([], r)
 
 abbrev pub bad_chunk : Read → Read
-bad_chunk read = (BadChunk ∷ read.0, read.1)
+bad_chunk read = (commands.Refused refusals.BadChunk ∷ read.0, read.1)
+
+-- the value that a storage line and its block ask to be stored
+abbrev pub put_of : SetLine → List ℕ → Put
+put_of line block = record { key = line.key; mode = modes.Set; flags = line.flags; exptime = line.exptime; compare = None; value = block }
 
 -- the second byte behind a block
 abbrev pub behind_block : ℕ → SetLine → List ℕ → ℕ → ℕ → Read
 behind_block item_max line block a b =
-    if (a == 13) && (b == 10) then (Store line block ∷ [], InLine []) else bad_chunk (after_skip item_max (in_skip 0 a) b)
+    if (a == 13) && (b == 10) then (commands.Store (put_of line block) ∷ [], InLine []) else bad_chunk (after_skip item_max (in_skip 0 a) b)
 
 abbrev pub behind_byte : ℕ → SetLine → List ℕ → List ℕ → ℕ → Read
 behind_byte item_max line block [] b = ([], Behind line block (b ∷ []))
@@ -75,5 +80,10 @@ read_from item_max r (b ∷ bytes) =
     let first = read_byte item_max r b in let rest = read_from item_max first.1 bytes in (first.0 ++ rest.0, rest.1)
 
 -- the commands of a session's bytes, and where the reader stands behind them
-abbrev pub commands : ℕ → List ℕ → Read
-commands item_max bytes = read_from item_max (InLine []) bytes
+abbrev pub commands_of : ℕ → List ℕ → Read
+commands_of item_max bytes = read_from item_max (InLine []) bytes
+
+-- whether the session has ended
+abbrev pub is_closed : Reader → Bool
+is_closed Closed = true
+is_closed _ = false

@@ -1,8 +1,13 @@
 pub mod Answers
 pub mod Commands
+pub mod Ends
 pub mod Examples
 pub mod Lines
-pub mod Numbers
 pub mod Output
 pub mod Playing
 pub mod Replies
+pub mod ScriptLaws
+pub mod Scripts
+pub mod Seats
+pub mod Sessions
+pub mod Steps

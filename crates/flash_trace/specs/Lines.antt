@@ -1,33 +1,37 @@
 -- The lines of a session: which commands they are (memcached's doc/protocol.txt).
-use Rattle.std.specs.Prelude.{ℕ, ℤ, pos, ◌+◌, ◌^◌, Bool, ◌&&◌, not, ◌==◌, nat_eq, nat_le, nat_lt, List, [], ◌∷◌, length, filter, Option, None, Some, codes, if◌then◌else◌}
+use Rattle.std.specs.Prelude.{ℕ, ℤ, pos, ◌+◌, ◌^◌, ◌&&◌, not, ◌==◌, nat_eq, nat_le, nat_lt, List, [], ◌∷◌, length, filter, Option, None, Some, codes, if◌then◌else◌}
 use Rattle.std.specs.Option.{option_map, option_and_then}
 use Rattle.std.specs.List.{list_all}
 use Rattle.std.specs.Str.{bytes_eq}
 use Rattle.std.specs.Prelude.{neg_ℤ}
 use Rattle.flash_names.specs.Numbers.{number_of}
 use Rattle.flash_names.specs.Words.{words}
-
--- what a storage line asks: the key, the flags, the exptime and the length of the block behind it
-pub record SetLine : Type 0 where
-  pub key : List ℕ
-  pub flags : ℕ
-  pub exptime : ℤ
-  pub size : ℕ
-
--- a line is a lookup, a storage line, or one that is refused
-pub data Line : Type 0 where
-  Get : List ℕ → Line
-  Set : SetLine → Line
-  Unknown : Line
+use Rattle.flash_trace.specs.declared.line.SetLine.{SetLine}
+use Rattle.flash_trace.specs.declared.line.Line.{Line}
+use Rattle.flash_trace.specs.declared.line.Line.TheVariants.{Get, Set, Unknown}
 
 -- the line without one carriage return at its end
 abbrev pub without_return : List ℕ → List ℕ
 without_return [] = []
 without_return (b ∷ bytes) = elim bytes [ [] ↦ (if b == 13 then [] else b ∷ []) | c ∷ cs ↦ b ∷ without_return bytes ]
 
+-- a line feed and what stands behind it, where it stands there
+abbrev pub with_feed : Option (List ℕ) → List ℕ
+with_feed None = []
+with_feed (Some rest) = 10 ∷ rest
+
 -- the words between one or more spaces
+abbrev pub spaced_words : List ℕ → List (List ℕ)
+spaced_words line = filter (λ w. not (nat_eq (length w) 0)) (words line)
+
+-- a word in front of those of what stands behind it, or no words
+abbrev pub with_next : Option (List ℕ × List ℕ) → List (List ℕ)
+with_next None = []
+with_next (Some parts) = parts.0 ∷ spaced_words parts.1
+
+-- those of a line
 abbrev pub line_words : List ℕ → List (List ℕ)
-line_words line = filter (λ w. not (nat_eq (length w) 0)) (words (without_return line))
+line_words line = spaced_words (without_return line)
 
 -- a key of a text line: 1 to 250 bytes, each above a space and no 0x7f
 abbrev pub key_of : List ℕ → Option (List ℕ)

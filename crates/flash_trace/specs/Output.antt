@@ -1,15 +1,20 @@
--- What a trace that ran writes.
+-- What a trace writes.
 use Rattle.std.specs.Prelude.{ℕ, ◌+◌, Bool, List, [], ◌∷◌, ◌++◌, length, Option, None, Some, codes, decimal, if◌then◌else◌}
-use Rattle.std.specs.List.{concat, flat_map}
-use Rattle.flash_names.specs.declared.geometry.Geometry.{Geometry}
+use Rattle.std.specs.List.{flat_map}
+use Rattle.flash_entry.specs.declared.entry.Entry.{Entry}
 use Rattle.flash_entry.specs.EntryText.{entry_line}
-use Rattle.flash_trace.specs.Playing.{Step, Seat, Play, play}
+use Rattle.flash_trace.specs.declared.fault.Why.{Why}
+use Rattle.flash_trace.specs.declared.fault.Why.TheVariants.{BadWord, BadNumber, Short, TooLong}
+use Rattle.flash_trace.specs.declared.fault.Why.TheVariants as reasons
+use Rattle.flash_trace.specs.declared.fault.ScriptFault.{ScriptFault}
+use Rattle.flash_trace.specs.Playing.{Seat, play_of}
+use Rattle.flash_trace.specs.Scripts.{Script, fault_of, script_of}
 
--- a session's line, its bytes and a line feed, where it was made
+-- a session's line, what it was answered, and a line feed, where it was made
 abbrev pub session_text : ℕ → Option Seat → List ℕ
 session_text number None = []
 session_text number (Some seat) =
-    let bytes = concat seat.pieces in codes "session " ++ decimal number ++ 32 ∷ decimal (length bytes) ++ 10 ∷ [] ++ bytes ++ 10 ∷ []
+    codes "session " ++ decimal number ++ 32 ∷ decimal (length seat.said) ++ 10 ∷ seat.said ++ 10 ∷ []
 
 -- the sessions from this number on
 abbrev pub sessions_text : ℕ → List (Option Seat) → List ℕ
@@ -17,11 +22,40 @@ sessions_text number [] = []
 sessions_text number (seat ∷ seats) = session_text number seat ++ sessions_text (number + 1) seats
 
 -- the journal behind the script's first line, with its line feed
-abbrev pub journal_text : List ℕ → Play → List ℕ
-journal_text head p = codes "journal " ++ decimal (length p.kept.journal) ++ 10 ∷ [] ++ head ++ flat_map entry_line p.kept.journal
+abbrev pub journal_text : List ℕ → List Entry → List ℕ
+journal_text head journal = codes "journal " ++ decimal (length journal) ++ 10 ∷ head ++ flat_map entry_line journal
 
--- the whole output of a script of these steps, with the journal or without
-abbrev pub output : Geometry → List ℕ → List Step → Bool → List ℕ
-output g head steps with_journal =
-    let p = play g steps in
-    concat p.printed ++ sessions_text 0 p.seats ++ (if with_journal then journal_text head p else []) ++ codes "end " ++ decimal (length steps) ++ 10 ∷ []
+-- the same where it is wanted
+abbrev pub journal_if : Bool → List ℕ → List Entry → List ℕ
+journal_if wanted head journal = if wanted then journal_text head journal else []
+
+-- what a trace of so many steps has printed, what its sessions were answered, and its journal
+abbrev pub played_text : List ℕ → List (Option Seat) → List ℕ → ℕ → List ℕ
+played_text printed seats journal steps = printed ++ sessions_text 1 seats ++ journal ++ codes "end " ++ decimal steps ++ 10 ∷ []
+
+-- the whole output of a script, with the journal or without
+abbrev pub output : Script → Bool → List ℕ
+output script with_journal =
+    let play = play_of script.geometry script.steps in
+    played_text play.printed play.seats (journal_if with_journal script.head play.kept.journal) (length script.steps)
+
+abbrev pub why_text : Why → List ℕ
+why_text BadWord = codes "bad-word"
+why_text BadNumber = codes "bad-number"
+why_text (reasons.Geometry rule) = codes "geometry-" ++ decimal rule
+why_text Short = codes "short"
+why_text TooLong = codes "too-long"
+
+-- the whole output of a script with a bad line
+abbrev pub fault_text : ScriptFault → List ℕ
+fault_text fault = codes "script " ++ decimal fault.line ++ 32 ∷ why_text fault.why ++ 10 ∷ []
+
+-- what is written for a script with a bad line, or for one without
+abbrev pub fault_or_output : Option ScriptFault → Option Script → Bool → List ℕ
+fault_or_output (Some fault) script with_journal = fault_text fault
+fault_or_output None (Some script) with_journal = output script with_journal
+fault_or_output None None with_journal = []
+
+-- what is written for a script of these bytes
+abbrev pub text_of : List ℕ → Bool → List ℕ
+text_of bytes with_journal = fault_or_output (fault_of bytes) (script_of bytes) with_journal

@@ -4,9 +4,13 @@ use Rattle.flash_entry.specs.declared.answer.Stored.{Stored}
 use Rattle.flash_entry.specs.declared.answer.Stored.TheVariants as stored
 use Rattle.flash_entry.specs.declared.found.Found2.{Found2}
 use Rattle.flash_entry.specs.declared.found.Found2.TheVariants as found
+use Rattle.flash_entry.specs.declared.found.Hit.{Hit}
 use Rattle.flash_entry.specs.declared.found.Told.{Told}
 use Rattle.flash_entry.specs.declared.found.Told.TheVariants as told
-use Rattle.flash_trace.specs.Commands.{Command, Look, Store, UnknownLine, BadChunk}
+use Rattle.flash_trace.specs.declared.command.Refusal.{Refusal}
+use Rattle.flash_trace.specs.declared.command.Refusal.TheVariants as refusals
+use Rattle.flash_trace.specs.declared.command.Command.{Command}
+use Rattle.flash_trace.specs.declared.command.Command.TheVariants.{Get, Store, Refused}
 
 -- a line with its end
 abbrev pub reply_line : List ℕ → List ℕ
@@ -20,20 +24,30 @@ stored_line stored.NotFound = reply_line (codes "NOT_FOUND")
 stored_line stored.TooLarge = reply_line (codes "SERVER_ERROR object too large for cache")
 stored_line stored.NoNumber = reply_line (codes "SERVER_ERROR numbers used up")
 
--- the block of a hit; a miss has none
+-- the block of a hit
+abbrev pub hit_text : List ℕ → Hit → List ℕ
+hit_text key hit = reply_line (codes "VALUE " ++ key ++ 32 ∷ decimal hit.head.flags ++ 32 ∷ decimal hit.head.size) ++ reply_line hit.value
+
+-- a miss has no block
 abbrev pub found_block : List ℕ → Found2 → List ℕ
-found_block key (found.Hit hit) =
-    reply_line (codes "VALUE " ++ key ++ 32 ∷ decimal hit.head.flags ++ 32 ∷ decimal hit.head.size) ++ reply_line hit.value
+found_block key (found.Hit hit) = hit_text key hit
 found_block key _ = []
+
+-- the reply to a lookup
+abbrev pub found_text : List ℕ → Found2 → List ℕ
+found_text key outcome = found_block key outcome ++ reply_line (codes "END")
 
 -- the reply to a step of a command, by its outcome; the last step of a lookup carries its end
 abbrev pub step_text : Command → Told → List ℕ
-step_text (Look key) (told.Found outcome) = found_block key outcome ++ reply_line (codes "END")
-step_text (Store line block) (told.Stored answer) = stored_line answer
+step_text (Get key) (told.Found outcome) = found_text key outcome
+step_text (Store put) (told.Stored answer) = stored_line answer
 step_text _ _ = reply_line (codes "SERVER_ERROR out of memory")
+
+abbrev pub refusal_text : Refusal → List ℕ
+refusal_text refusals.Unknown = reply_line (codes "ERROR")
+refusal_text refusals.BadChunk = reply_line (codes "CLIENT_ERROR bad data chunk")
 
 -- the reply to a command that makes no step
 abbrev pub plain_text : Command → List ℕ
-plain_text UnknownLine = reply_line (codes "ERROR")
-plain_text BadChunk = reply_line (codes "CLIENT_ERROR bad data chunk")
+plain_text (Refused refusal) = refusal_text refusal
 plain_text _ = []

@@ -34,5 +34,8 @@ pub enum Status {
     SourceFault,
     /// A write failed. The sink got a front part of the output.
     SinkFault,
+    /// The device failed as it was prepared. Nothing was written.
+    PrepareFault,
+    /// Memory ran out. Nothing was written.
     NoMemory,
 }

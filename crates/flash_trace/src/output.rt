@@ -1,27 +1,33 @@
+// What a trace writes.
+ghost use Rattle.std.specs.Prelude.{◌≡◌, ◌++◌, ◌≤◌, length, map, decimal, IfOk, OnOk};
+ghost use Rattle.std.specs.Option.{option_map};
+ghost use Rattle.std.specs.List.{flat_map};
+ghost use Rattle.flash_entry.specs.EntryText.{entry_line};
+ghost use Rattle.flash_trace.specs.Output.{fault_text, journal_if, journal_text, played_text, session_text, sessions_text, why_text};
+ghost use Rattle.flash_trace.specs.Seats.{seat_of, seats_of};
+
 use crate::fault::{ScriptFault, Why};
-use crate::play::Play;
+use crate::play::{Play, Seat};
 use flash_entry::{Entry, print_entry};
 use itoa::Buffer;
 use std::alloc::{AllocError, Global};
 
-/// The output of a trace that ran: the printed lines, each session's output, with `journal` the journal
-/// behind its head, and the number of steps.
+/// The output of a trace that ran: the printed lines, each session's replies, with `with_journal` the journal
+/// behind the script's first line, and the number of steps.
 pub fn played_output(
     alloc: Global,
     play: &Play,
-    journal: Option<(&[u8], &[Entry])>,
+    with_journal: bool,
+    head: &[u8],
+    journal: &[Entry],
     steps: usize,
-) -> Result<Vec<u8>, AllocError> {
+) -> Result<Vec<u8>, AllocError>
+    ensures { IfOk result (λ out. out.items ≡ played_text play.now.printed.items (seats_of play.now) (journal_if with_journal head.now journal.now) steps) }
+{
     let mut out = play.printed.to_vec(alloc)?;
-    let mut number = 0u64;
-    'seats: for seat in &play.seats {
-        number = number.saturating_add(1);
-        if let Some(seat) = seat {
-            push_session(&mut out, number, &seat.output)?;
-        }
-    }
-    if let Some((head, entries)) = journal {
-        push_journal(alloc, &mut out, head, entries)?;
+    push_sessions(&mut out, &play.seats)?;
+    if with_journal {
+        push_journal(alloc, &mut out, head, journal)?;
     }
     out.extend_from_slice(b"end ")?;
     push_number(&mut out, steps as u64)?;
@@ -29,13 +35,29 @@ pub fn played_output(
     Ok(out)
 }
 
-fn push_session(out: &mut Vec<u8>, number: u64, output: &[u8]) -> Result<(), AllocError> {
+fn push_sessions(out: &mut Vec<u8>, seats: &[Option<Seat>]) -> Result<(), AllocError>
+    ensures { OnOk result (out.new.items ≡ out.old.items ++ sessions_text 1 (map (option_map seat_of) seats.now)) }
+{
+    let mut number = 0u64;
+    'seats: for seat in seats {
+        number += 1;
+        push_session(out, number, seat)?;
+    }
+    Ok(())
+}
+
+fn push_session(out: &mut Vec<u8>, number: u64, seat: &Option<Seat>) -> Result<(), AllocError>
+    ensures { OnOk result (out.new.items ≡ out.old.items ++ session_text number (option_map seat_of seat.now)) }
+{
+    let Some(seat) = seat else {
+        return Ok(());
+    };
     out.extend_from_slice(b"session ")?;
     push_number(out, number)?;
     out.extend_from_slice(b" ")?;
-    push_number(out, output.len() as u64)?;
+    push_number(out, seat.said.len() as u64)?;
     out.extend_from_slice(b"\n")?;
-    out.extend_from_slice(output)?;
+    out.extend_from_slice(&seat.said)?;
     out.extend_from_slice(b"\n")
 }
 
@@ -43,37 +65,55 @@ fn push_journal(
     alloc: Global,
     out: &mut Vec<u8>,
     head: &[u8],
-    entries: &[Entry],
-) -> Result<(), AllocError> {
+    journal: &[Entry],
+) -> Result<(), AllocError>
+    ensures { OnOk result (out.new.items ≡ out.old.items ++ journal_text head.now journal.now) }
+{
     out.extend_from_slice(b"journal ")?;
-    push_number(out, entries.len() as u64)?;
+    push_number(out, journal.len() as u64)?;
     out.extend_from_slice(b"\n")?;
     out.extend_from_slice(head)?;
-    'entries: for entry in entries {
+    push_entries(alloc, out, journal)
+}
+
+fn push_entries(alloc: Global, out: &mut Vec<u8>, journal: &[Entry]) -> Result<(), AllocError>
+    ensures { OnOk result (out.new.items ≡ out.old.items ++ flat_map entry_line journal.now) }
+{
+    'entries: for entry in journal {
         out.extend_from_slice(print_entry(alloc, entry)?.bytes())?;
     }
     Ok(())
 }
 
 /// The output of a script that has a bad line.
-pub fn fault_output(alloc: Global, fault: ScriptFault) -> Result<Vec<u8>, AllocError> {
+pub fn fault_output(alloc: Global, fault: ScriptFault) -> Result<Vec<u8>, AllocError>
+    ensures { IfOk result (λ out. out.items ≡ fault_text fault) }
+{
     let mut out = b"script ".to_vec(alloc)?;
     push_number(&mut out, u64::from(fault.line))?;
     out.extend_from_slice(b" ")?;
-    out.extend_from_slice(match fault.why {
-        Why::BadWord => b"bad-word",
-        Why::BadNumber => b"bad-number",
-        Why::Geometry(_) => b"geometry-",
-        Why::Short => b"short",
-        Why::TooLong => b"too-long",
-    })?;
-    if let Why::Geometry(rule) = fault.why {
-        push_number(&mut out, u64::from(rule))?;
-    }
+    push_why(&mut out, fault.why)?;
     out.extend_from_slice(b"\n")?;
     Ok(out)
 }
 
-fn push_number(out: &mut Vec<u8>, number: u64) -> Result<(), AllocError> {
+fn push_why(out: &mut Vec<u8>, why: Why) -> Result<(), AllocError>
+    ensures { OnOk result (out.new.items ≡ out.old.items ++ why_text why) }
+{
+    match why {
+        Why::BadWord => out.extend_from_slice(b"bad-word"),
+        Why::BadNumber => out.extend_from_slice(b"bad-number"),
+        Why::Geometry(rule) => {
+            out.extend_from_slice(b"geometry-")?;
+            push_number(out, u64::from(rule))
+        }
+        Why::Short => out.extend_from_slice(b"short"),
+        Why::TooLong => out.extend_from_slice(b"too-long"),
+    }
+}
+
+fn push_number(out: &mut Vec<u8>, number: u64) -> Result<(), AllocError>
+    ensures { OnOk result (out.new.items ≡ out.old.items ++ decimal number) }
+{
     out.extend_from_slice(Buffer::new().format(number).as_bytes())
 }

@@ -1,34 +1,57 @@
-ghost use Rattle.std.specs.Prelude.{◌≡◌, ◌+◌, ◌-◌, length, slice_index, slice_set, IfOk, OnOk};
-ghost use Rattle.flash_trace.specs.Numbers.{AreNumbered};
+ghost use Rattle.std.specs.Prelude.{◌≡◌, ◌-◌, not, [], ◌∷◌, ◌++◌, None, Some, decimal, length, replicate, slice_get, slice_set, if◌then◌else◌, IfOk, OnOk, IsTrue, is_some};
+ghost use Rattle.std.specs.Option.{ForSome, option_map};
+ghost use Rattle.flash_trace.specs.Commands.{is_closed};
+ghost use Rattle.flash_trace.specs.Playing.{Kept, clock, fed_by, seat_or_new, play_step, run, say};
+ghost use Rattle.flash_trace.specs.Scripts.{step_meant, IsWithin};
+ghost use Rattle.flash_trace.specs.Seats.{seat_of, seats_of, played, state_of, AreSeats, GoesOn, TakesUpTo};
 
-use crate::command::Command;
-use crate::reply::{reply_found, reply_refusal, reply_stored};
 use crate::session::Session;
 use crate::step::{SessionNumber, Step};
 use flash_core::Core;
-use flash_entry::{Journal, Look};
-use flash_names::Id;
+use flash_entry::Journal;
+use flash_names::Geometry;
 use itoa::Buffer;
 use std::alloc::{AllocError, Global};
 
-/// A session that a script made, with what it was answered.
+/// A session that a script made, with the number of its last step and what it was answered.
 #[derive(Drop)]
 pub struct Seat {
     pub session: Session,
-    pub output: Vec<u8>,
+    pub last: u64,
+    pub said: Vec<u8>,
+}
+
+impl Seat {
+    // Gives the session these bytes and a line end, and answers whether it took them: one that is closed takes
+    // nothing.
+    fn hear(&mut self, said: &[u8]) -> Result<bool, AllocError>
+        ensures taken { IfOk result (λ taken. taken ≡ not (is_closed (seat_of self.old).reader)) }
+        ensures heard { IfOk result (λ taken. seat_of self.new ≡ (if taken then fed_by self.old.session.item_max (seat_of self.old) said.now else seat_of self.old)) }
+        ensures size { OnOk result (self.new.session.item_max ≡ self.old.session.item_max) }
+    {
+        if self.session.is_closed() {
+            return Ok(false);
+        }
+        self.session.feed(said)?;
+        self.session.feed(b"\r\n")?;
+        Ok(true)
+    }
 }
 
 /// What a trace has printed and answered so far.
 #[derive(Drop)]
 pub struct Play {
     pub printed: Vec<u8>,
-    /// The sessions that were made, by their places.
+    /// The sessions from 1 to 16, as far as they are made.
     pub seats: Vec<Option<Seat>>,
 }
 
 impl Play {
     /// Before the first step: nothing was printed, and no session was made.
-    pub fn new(alloc: Global) -> Result<Play, AllocError> {
+    pub fn new(alloc: Global) -> Result<Play, AllocError>
+        ensures printed { IfOk result (λ play. play.printed.items ≡ []) }
+        ensures seats { IfOk result (λ play. play.seats.items ≡ replicate 16 None) }
+    {
         let mut seats = Vec::new(alloc);
         'seats: for _ in 0..16u8 {
             seats.push(None)?;
@@ -44,46 +67,61 @@ impl Play {
         &mut self,
         alloc: Global,
         core: &mut Core<J>,
-        numbers: &mut [u64],
         script: &[u8],
         step: Step,
-        line: u32,
+        line: u64,
     ) -> Result<(), AllocError>
-        requires sixteen { length numbers.old ≡ 16 }
-        requires numbered { AreNumbered core.old.told numbers.old }
-        ensures { OnOk result (AreNumbered core.new.told numbers.new) }
+        requires going { GoesOn core.old self.old }
+        requires within { IsWithin (length script.now) step }
+        ensures done { OnOk result (state_of core.new self.new ≡ play_step core.old.geometry (state_of core.old self.old) line (step_meant script.now step)) }
+        ensures seats { OnOk result (AreSeats core.old.geometry.item_max self.new.seats.items) }
+        ensures tells { OnOk result (IsTrue (is_some core.new.told)) }
+        ensures geometry { OnOk result (core.new.geometry ≡ core.old.geometry) }
     {
         match step {
-            Step::Clock(reading) => {
-                let rose = core.clock(reading)?;
-                self.print_unless(rose, b"idle", line)
-            }
+            Step::Clock(reading) => self.clock(core, reading, line),
             Step::Say(session, first, last) => {
-                let said = script.get(first as usize..last as usize).unwrap_or(&[]);
-                let taken = self.say(alloc, core.geometry().item_max, session, said)?;
-                self.print_unless(taken, b"closed", line)
+                let said = &script[first as usize..last as usize];
+                self.say(alloc, &core.geometry(), session, said, line)
             }
-            Step::Run(session) => self.run(alloc, core, numbers, session),
+            Step::Run(session) => self.run(alloc, core, session),
         }
     }
 
-    // Gives the session these bytes and a line end, and answers whether it took them: one that is closed
-    // takes nothing.
+    // Reads the clock. Where the moment doesn't rise, a line is printed.
+    fn clock<J: Journal>(
+        &mut self,
+        core: &mut Core<J>,
+        reading: u64,
+        line: u64,
+    ) -> Result<(), AllocError>
+        requires tells { IsTrue (is_some core.old.told) }
+        ensures done { OnOk result (state_of core.new self.new ≡ clock (state_of core.old self.old) line reading) }
+        ensures seats { OnOk result (self.new.seats.items ≡ self.old.seats.items) }
+        ensures tells { OnOk result (IsTrue (is_some core.new.told)) }
+        ensures geometry { OnOk result (core.new.geometry ≡ core.old.geometry) }
+    {
+        let rose = core.clock(reading)?;
+        self.print_unless(rose, b"idle", line)
+    }
+
+    // Gives the session these bytes and a line end. One that is closed takes nothing, and a line is printed.
     fn say(
         &mut self,
         alloc: Global,
-        item_max: u32,
+        geometry: &Geometry,
         session: SessionNumber,
         said: &[u8],
-    ) -> Result<bool, AllocError> {
-        let mut seat = self.take_seat(alloc, item_max, session);
-        let open = !seat.session.is_closed();
-        if open {
-            seat.session.feed(said)?;
-            seat.session.feed(b"\r\n")?;
-        }
+        line: u64,
+    ) -> Result<(), AllocError>
+        requires seats { AreSeats geometry.now.item_max self.old.seats.items }
+        ensures done { OnOk result ((kept : Kept) → played kept self.new ≡ say geometry.now (played kept self.old) line session.number said.now) }
+        ensures seats { OnOk result (AreSeats geometry.now.item_max self.new.seats.items) }
+    {
+        let mut seat = self.take_seat(alloc, geometry.item_max, session);
+        let taken = seat.hear(said)?;
         self.put_seat(session, seat);
-        Ok(open)
+        self.print_unless(taken, b"closed", line)
     }
 
     // Does the commands that the session has read.
@@ -91,39 +129,47 @@ impl Play {
         &mut self,
         alloc: Global,
         core: &mut Core<J>,
-        numbers: &mut [u64],
         session: SessionNumber,
     ) -> Result<(), AllocError>
-        requires sixteen { length numbers.old ≡ 16 }
-        requires numbered { AreNumbered core.old.told numbers.old }
-        ensures { OnOk result (AreNumbered core.new.told numbers.new) }
+        requires going { GoesOn core.old self.old }
+        ensures done { OnOk result (state_of core.new self.new ≡ run core.old.geometry (state_of core.old self.old) session.number) }
+        ensures seats { OnOk result (AreSeats core.old.geometry.item_max self.new.seats.items) }
+        ensures tells { OnOk result (IsTrue (is_some core.new.told)) }
+        ensures geometry { OnOk result (core.new.geometry ≡ core.old.geometry) }
     {
         let mut seat = self.take_seat(alloc, core.geometry().item_max, session);
         let commands = seat.session.take_commands();
-        act_all(alloc, core, numbers, session, &commands, &mut seat.output)?;
+        seat.do_all(alloc, core, session, &commands)?;
         self.put_seat(session, seat);
         Ok(())
     }
 
-    // The session of this number, a new one where it isn't made yet.
-    fn take_seat(&mut self, alloc: Global, item_max: u32, session: SessionNumber) -> Seat {
-        let made = self.seats.get_mut(session.place()).and_then(Option::take);
-        match made {
-            Some(seat) => seat,
-            None => Seat {
-                session: Session::new(alloc, item_max),
-                output: Vec::new(alloc),
-            },
-        }
+    // Takes the session of this number out, a new one where it isn't made yet.
+    fn take_seat(&mut self, alloc: Global, item_max: u32, session: SessionNumber) -> Seat
+        requires { AreSeats item_max self.old.seats.items }
+        ensures seat { seat_of result ≡ seat_or_new (slice_get (seats_of self.old) (session.number - 1)) }
+        ensures size { TakesUpTo item_max result }
+        ensures seats { self.new.seats.items ≡ slice_set self.old.seats.items (session.number - 1) None }
+        ensures printed { self.new.printed.items ≡ self.old.printed.items }
+    {
+        let made = std::mem::replace(&mut self.seats[session.place()], None);
+        made_or_new(alloc, item_max, made)
     }
 
-    fn put_seat(&mut self, session: SessionNumber, seat: Seat) {
-        if let Some(place) = self.seats.get_mut(session.place()) {
-            *place = Some(seat);
-        }
+    // Puts it back.
+    fn put_seat(&mut self, session: SessionNumber, seat: Seat)
+        requires sixteen { length self.old.seats.items ≡ 16 }
+        ensures seats { self.new.seats.items ≡ slice_set self.old.seats.items (session.number - 1) (Some seat) }
+        ensures printed { self.new.printed.items ≡ self.old.printed.items }
+    {
+        self.seats[session.place()] = Some(seat);
     }
 
-    fn print_unless(&mut self, done: bool, word: &[u8], line: u32) -> Result<(), AllocError> {
+    // Prints the word and the line's number where it wasn't done.
+    fn print_unless(&mut self, done: bool, word: &[u8], line: u64) -> Result<(), AllocError>
+        ensures printed { OnOk result (self.new.printed.items ≡ (if done then self.old.printed.items else self.old.printed.items ++ word.now ++ 32 ∷ decimal line ++ 10 ∷ [])) }
+        ensures seats { OnOk result (self.new.seats.items ≡ self.old.seats.items) }
+    {
         if done {
             return Ok(());
         }
@@ -135,68 +181,17 @@ impl Play {
     }
 }
 
-// Does these commands of a session, one after the other.
-fn act_all<J: Journal>(
-    alloc: Global,
-    core: &mut Core<J>,
-    numbers: &mut [u64],
-    session: SessionNumber,
-    commands: &[Command],
-    out: &mut Vec<u8>,
-) -> Result<(), AllocError>
-    requires sixteen { length numbers.old ≡ 16 }
-    requires numbered { AreNumbered core.old.told numbers.old }
-    ensures { OnOk result (AreNumbered core.new.told numbers.new) }
+fn made_or_new(alloc: Global, item_max: u32, made: Option<Seat>) -> Seat
+    requires { ForSome made (TakesUpTo item_max) }
+    ensures seat { seat_of result ≡ seat_or_new (Some (option_map seat_of made)) }
+    ensures size { TakesUpTo item_max result }
 {
-    'commands: for command in commands {
-        act(alloc, core, numbers, session, command, out)?;
+    match made {
+        Some(seat) => seat,
+        None => Seat {
+            session: Session::new(alloc, item_max),
+            last: 0,
+            said: Vec::new(alloc),
+        },
     }
-    Ok(())
-}
-
-// Does one command of a session, and appends its reply.
-fn act<J: Journal>(
-    alloc: Global,
-    core: &mut Core<J>,
-    numbers: &mut [u64],
-    session: SessionNumber,
-    command: &Command,
-    out: &mut Vec<u8>,
-) -> Result<(), AllocError>
-    requires sixteen { length numbers.old ≡ 16 }
-    requires numbered { AreNumbered core.old.told numbers.old }
-    ensures { OnOk result (AreNumbered core.new.told numbers.new) }
-{
-    match command {
-        Command::Refused(refusal) => reply_refusal(out, *refusal),
-        Command::Get(key) => {
-            let id = next_id(numbers, session)?;
-            let look = Look {
-                value: true,
-                renew: None,
-            };
-            let found = core.look(alloc, id, key, look)?;
-            reply_found(out, key, &found)
-        }
-        Command::Store(put) => {
-            let id = next_id(numbers, session)?;
-            let stored = core.store(alloc, id, put)?;
-            reply_stored(out, stored)
-        }
-    }
-}
-
-// The number of the session's next step. A script has too few bytes for 2^64 - 1 steps.
-fn next_id(numbers: &mut [u64], session: SessionNumber) -> Result<Id, AllocError>
-    requires { length numbers.old ≡ 16 }
-    ensures id { IfOk result (λ id. (id.pass ≡ session.number) × (id.seq ≡ slice_index numbers.old (session.number - 1) + 1)) }
-    ensures counted { IfOk result (λ id. numbers.new ≡ slice_set numbers.old (session.number - 1) id.seq) }
-{
-    let place = session.place();
-    let seq = numbers[place].checked_add(1).ok_or(AllocError)?;
-    numbers[place] = seq;
-    Ok(Id {
-        pass: session.number,
-        seq,
-    })
 }

@@ -1,13 +1,23 @@
-ghost use Rattle.std.specs.Prelude.{◌≡◌, [], IfSome};
+ghost use Rattle.std.specs.Prelude.{◌≡◌, ◌↔◌, ◌<◌, ◌≤◌, ℕ, List, Option, true, false, Some, None, length, map, IfOk, IfErr, OnOk, OnErr, IsTrue, is_some};
+ghost use Rattle.flash_names.specs.Faults.{Rose, Counts};
+ghost use Rattle.flash_names.specs.Source.{IsAtEnd};
+ghost use Rattle.flash_names.specs.Told.{in_front};
+ghost use Rattle.flash_trace.specs.Ends.{journal_wanted, Ends, IsWritten, IsBegun, HasRead, AtDone, AtUsage, AtScript, AtSourceFault, AtSinkFault, AtPrepareFault, AtNoMemory, HasRun, HasRefused, HasBegun, HasReading, IsComplete, EveryTraceIsRight};
+ghost use Rattle.flash_trace.specs.Output.{output};
+ghost use Rattle.flash_trace.specs.Playing.{play_from};
+ghost use Rattle.flash_trace.specs.Scripts.{AreWithin, script_of, script_meant, step_meant};
+ghost use Rattle.flash_trace.specs.Seats.{GoesOn, state_of};
 
-use crate::fault::{ScriptFault, Status, Why};
+use crate::fault::Status;
+use crate::laws::every_trace_is_right;
 use crate::output::{fault_output, played_output};
 use crate::play::Play;
 use crate::script::{MAX_BYTES, NotRead, Script, read_script};
 use crate::step::Step;
 use flash_core::Core;
+use flash_device::{Device, PrepareError};
 use flash_entry::Kept;
-use flash_names::{Blob, Sink, Source};
+use flash_names::{Blob, Sink, SinkFault, Source, SourceFault};
 use std::alloc::{AllocError, Global};
 
 // How many bytes a read asks for.
@@ -15,24 +25,42 @@ const PIECE: usize = 65_536;
 
 /// Reads a script, runs it over a store, and writes what it printed and answered. The words are `trace` or
 /// `trace --journal`, which writes the journal too; any other is a usage fault, and then nothing is read or
-/// written.
-pub fn run_trace<S: Source, K: Sink>(
+/// written. The device is prepared where the script was read and has no bad line.
+pub fn run_trace<S: Source, K: Sink, D: Device>(
     alloc: Global,
     words: &[Blob],
     source: &mut S,
     sink: &mut K,
-) -> Status {
+    device: &mut D,
+) -> Status
+    ensures usage { (result ≡ Status.Usage) ↔ (journal_wanted words.now ≡ None) }
+    ensures untouched { AtUsage result ((source.new ≡ source.old) × (sink.new ≡ sink.old) × (device.new ≡ device.old)) }
+    ensures output { AtDone result (HasRun (journal_wanted words.now) (D.prepared device.new) (S.left source.old) (S.left source.new) (K.held sink.old) (K.held sink.new)) }
+    ensures script { AtScript result (λ fault. HasRefused fault (journal_wanted words.now) (S.left source.old) (S.left source.new) (K.held sink.old) (K.held sink.new)) }
+    ensures source_fault { AtSourceFault result (Rose (S.faults source.old) (S.faults source.new) × (sink.new ≡ sink.old)) }
+    ensures sink_fault { AtSinkFault result (Rose (K.faults sink.old) (K.faults sink.new)) }
+    ensures begun { AtSinkFault result (HasBegun (journal_wanted words.now) (S.left source.old) (S.left source.new) (K.held sink.old) (K.held sink.new)) }
+    ensures prepare_fault { AtPrepareFault result (Rose (D.faults device.old) (D.faults device.new) × (sink.new ≡ sink.old)) }
+    ensures good { AtPrepareFault result (HasReading (journal_wanted words.now) (S.left source.old) (S.left source.new)) }
+    ensures no_memory { AtNoMemory result (sink.new ≡ sink.old) }
+    ensures complete { IsComplete (journal_wanted words.now) (S.left source.old) (Rose (S.faults source.old) (S.faults source.new)) (Rose (K.faults sink.old) (K.faults sink.new)) (Rose (D.faults device.old) (D.faults device.new)) result }
+    ensures right { EveryTraceIsRight }
+{
+    every_trace_is_right();
     let Some(with_journal) = read_words(words) else {
         return Status::Usage;
     };
-    match trace(alloc, with_journal, source, sink) {
-        Ok(status) => status,
-        Err(status) => status,
+    match read_all(alloc, source) {
+        Ok(bytes) => trace(alloc, with_journal, &bytes, sink, device),
+        Err(ReadError::Fault) => Status::SourceFault,
+        Err(ReadError::NoMemory) => Status::NoMemory,
     }
 }
 
 // Whether the journal is wanted, where the words are those of a trace.
-fn read_words(words: &[Blob]) -> Option<bool> {
+fn read_words(words: &[Blob]) -> Option<bool>
+    ensures { result ≡ journal_wanted words.now }
+{
     match words {
         [trace] if trace.bytes() == b"trace".as_slice() => Some(false),
         [trace, journal]
@@ -42,37 +70,111 @@ fn read_words(words: &[Blob]) -> Option<bool> {
     }
 }
 
-fn trace<S: Source, K: Sink>(
+// Why a source wasn't read.
+#[derive(Clone, Copy)]
+enum ReadError {
+    Fault,
+    NoMemory,
+}
+
+// The bytes of a source, to its end, or until more than a script may have were read.
+fn read_all<S: Source>(alloc: Global, source: &mut S) -> Result<Vec<u8>, ReadError>
+    ensures read { IfOk result (λ bytes. HasRead bytes.items (S.left source.old) (S.left source.new)) }
+    ensures cause { IfErr result (λ error. error ≡ ReadError.Fault → Rose (S.faults source.old) (S.faults source.new)) }
+{
+    let Ok(mut piece) = new_piece(alloc) else {
+        return Err(ReadError::NoMemory);
+    };
+    let mut bytes = Vec::new(alloc);
+    'reads: while bytes.len() <= MAX_BYTES {
+        if !read_piece(source, &mut piece, &mut bytes)? {
+            return Ok(bytes);
+        }
+    }
+    Ok(bytes)
+}
+
+// Appends what one read gives, and answers whether it gave something.
+fn read_piece<S: Source>(
+    source: &mut S,
+    piece: &mut [u8],
+    bytes: &mut Vec<u8>,
+) -> Result<bool, ReadError>
+    requires { 0 < length piece.old }
+    ensures taken { OnOk result ((first : Option (List ℕ)) → first ≡ in_front bytes.old.items (S.left source.old) → first ≡ in_front bytes.new.items (S.left source.new)) }
+    ensures more { IfOk result (λ more. more ≡ true → length bytes.old.items < length bytes.new.items) }
+    ensures end { IfOk result (λ more. more ≡ false → IsAtEnd (S.left source.new)) }
+    ensures room { length piece.new ≡ length piece.old }
+    ensures kept { S.faults source.old ≤ S.faults source.new }
+    ensures cause { IfErr result (λ error. error ≡ ReadError.Fault → Rose (S.faults source.old) (S.faults source.new)) }
+{
+    match source.read(piece) {
+        Err(SourceFault) => Err(ReadError::Fault),
+        Ok(0) => Ok(false),
+        Ok(n) => match bytes.extend_from_slice(&piece[..n]) {
+            Ok(()) => Ok(true),
+            Err(AllocError) => Err(ReadError::NoMemory),
+        },
+    }
+}
+
+// Room for what a read gives.
+fn new_piece(alloc: Global) -> Result<Vec<u8>, AllocError>
+    ensures { IfOk result (λ piece. 0 < length piece.items) }
+{
+    Ok(vec![in alloc; 0u8; PIECE]?)
+}
+
+// Runs the script of these bytes, and writes its output.
+fn trace<K: Sink, D: Device>(
     alloc: Global,
     with_journal: bool,
-    source: &mut S,
+    bytes: &[u8],
     sink: &mut K,
-) -> Result<Status, Status> {
-    let bytes = read_all(alloc, source)?;
-    if bytes.len() > MAX_BYTES {
-        let fault = ScriptFault {
-            line: 0,
-            why: Why::TooLong,
-        };
-        return refuse(alloc, sink, fault);
-    }
-    match read_script(alloc, &bytes) {
-        Err(NotRead::NoMemory) => Err(Status::NoMemory),
-        Err(NotRead::Fault(fault)) => refuse(alloc, sink, fault),
-        Ok(script) => {
-            let out = play_script(alloc, with_journal, &bytes, &script).map_err(
-                |_| Status::NoMemory,
-            )?;
-            write_all(sink, &out)?;
-            Ok(Status::Done)
+    device: &mut D,
+) -> Status
+    ensures { Ends bytes.now with_journal (sink.new ≡ sink.old) (Rose (K.faults sink.old) (K.faults sink.new)) (Rose (D.faults device.old) (D.faults device.new)) (D.prepared device.new) (K.held sink.old) (K.held sink.new) result }
+{
+    match read_script(alloc, bytes) {
+        Ok(script) => run_script(alloc, with_journal, bytes, &script, sink, device),
+        Err(NotRead::NoMemory) => Status::NoMemory,
+        Err(NotRead::Fault(fault)) => {
+            let Ok(out) = fault_output(alloc, fault) else {
+                return Status::NoMemory;
+            };
+            match write_all(sink, &out) {
+                Ok(()) => Status::Script(fault),
+                Err(SinkFault) => Status::SinkFault,
+            }
         }
     }
 }
 
-fn refuse<K: Sink>(alloc: Global, sink: &mut K, fault: ScriptFault) -> Result<Status, Status> {
-    let out = fault_output(alloc, fault).map_err(|_| Status::NoMemory)?;
-    write_all(sink, &out)?;
-    Ok(Status::Script(fault))
+// Prepares the device, runs a script without a bad line, and writes its output.
+fn run_script<K: Sink, D: Device>(
+    alloc: Global,
+    with_journal: bool,
+    bytes: &[u8],
+    script: &Script,
+    sink: &mut K,
+    device: &mut D,
+) -> Status
+    requires reading { script_of bytes.now ≡ Some (script_meant bytes.now script.now) }
+    requires within { AreWithin (length bytes.now) script.now.steps.items }
+    ensures { Ends bytes.now with_journal (sink.new ≡ sink.old) (Rose (K.faults sink.old) (K.faults sink.new)) (Rose (D.faults device.old) (D.faults device.new)) (D.prepared device.new) (K.held sink.old) (K.held sink.new) result }
+{
+    match device.prepare(script.geometry.pages, script.geometry.page_size) {
+        Ok(()) => {}
+        Err(PrepareError::Fault) => return Status::PrepareFault,
+        Err(PrepareError::NoMemory) => return Status::NoMemory,
+    }
+    let Ok(out) = play_script(alloc, with_journal, bytes, script) else {
+        return Status::NoMemory;
+    };
+    match write_all(sink, &out) {
+        Ok(()) => Status::Done,
+        Err(SinkFault) => Status::SinkFault,
+    }
 }
 
 // The output of a script that was read.
@@ -81,20 +183,26 @@ fn play_script(
     with_journal: bool,
     bytes: &[u8],
     script: &Script,
-) -> Result<Vec<u8>, AllocError> {
+) -> Result<Vec<u8>, AllocError>
+    requires { AreWithin (length bytes.now) script.now.steps.items }
+    ensures { IfOk result (λ out. out.items ≡ output (script_meant bytes.now script.now) with_journal) }
+{
     let Ok(core) = Core::open(alloc, script.geometry, Kept::new(alloc)) else {
         return Err(AllocError);
     };
     let mut core = core;
     let mut play = Play::new(alloc)?;
     play_steps(alloc, &mut core, &mut play, bytes, &script.steps)?;
-    let head = bytes.get(..script.head_end).unwrap_or(&[]);
-    let journal = if with_journal {
-        Some((head, core.journal().entries()))
-    } else {
-        None
-    };
-    played_output(alloc, &play, journal, script.steps.len())
+    let head = &bytes[..script.head_end.min(bytes.len())];
+    let journal = core.journal().entries();
+    played_output(
+        alloc,
+        &play,
+        with_journal,
+        head,
+        journal,
+        script.steps.len(),
+    )
 }
 
 // Does the steps of a script, from its second line on.
@@ -105,38 +213,30 @@ fn play_steps(
     bytes: &[u8],
     steps: &[Step],
 ) -> Result<(), AllocError>
-    requires { IfSome core.old.told (λ entries. entries ≡ []) }
+    requires going { GoesOn core.old play.old }
+    requires within { AreWithin (length bytes.now) steps.now }
+    ensures done { OnOk result (state_of core.new play.new ≡ play_from core.old.geometry (state_of core.old play.old) 2 (map (step_meant bytes.now) steps.now)) }
+    ensures tells { OnOk result (IsTrue (is_some core.new.told)) }
 {
-    let mut numbers = [0; 16];
-    let mut line = 1u32;
+    let mut line = 1u64;
     'steps: for step in steps {
-        line = line.saturating_add(1);
-        play.step(alloc, core, &mut numbers, bytes, *step, line)?;
+        line += 1;
+        play.step(alloc, core, bytes, *step, line)?;
     }
     Ok(())
 }
 
-// The bytes of a source, to its end, or until more than a script may have were read.
-fn read_all<S: Source>(alloc: Global, source: &mut S) -> Result<Vec<u8>, Status> {
-    let mut bytes = Vec::new(alloc);
-    let mut piece = vec![in alloc; 0u8; PIECE].map_err(|_| Status::NoMemory)?;
-    'reads: while bytes.len() <= MAX_BYTES {
-        let n = source.read(&mut piece).map_err(|_| Status::SourceFault)?;
-        if n == 0 {
-            break;
+fn write_all<K: Sink>(sink: &mut K, bytes: &[u8]) -> Result<(), SinkFault>
+    ensures written { OnOk result (IsWritten bytes.now (K.held sink.old) (K.held sink.new)) }
+    ensures begun { OnErr result (IsBegun bytes.now (K.held sink.old) (K.held sink.new)) }
+    ensures counts { Counts (K.faults sink.old) (K.faults sink.new) result }
+{
+    let mut done = 0;
+    'writes: while done < bytes.len() {
+        match sink.write(&bytes[done..]) {
+            Ok(n) => done += n,
+            Err(SinkFault) => return Err(SinkFault),
         }
-        bytes
-            .extend_from_slice(&piece[..n])
-            .map_err(|_| Status::NoMemory)?;
-    }
-    Ok(bytes)
-}
-
-fn write_all<K: Sink>(sink: &mut K, bytes: &[u8]) -> Result<(), Status> {
-    let mut rest = bytes;
-    'writes: while !rest.is_empty() {
-        let n = sink.write(rest).map_err(|_| Status::SinkFault)?;
-        rest = &rest[n..];
     }
     Ok(())
 }

@@ -1,10 +1,14 @@
-ghost use Rattle.std.specs.Prelude.{◌≡◌, ◌+◌, ◌<◌, ◌≤◌, ◌^◌, length, IfOk, IfSome};
+ghost use Rattle.std.specs.Prelude.{◌≡◌, ◌-◌, ◌<◌, ◌≤◌, length, map, drop, option_map, slice_range, MatchResult, IfOk, IfErr};
+ghost use Rattle.flash_names.specs.Cut.{cut_at};
+ghost use Rattle.flash_trace.specs.declared.script.NotRead.TheVariants.{NoMemory};
+ghost use Rattle.flash_trace.specs.Steps.{AreSeated};
+ghost use Rattle.flash_trace.specs.Scripts.{why_of, session_of, step_word, step_of, first_fault, fault_from, steps_of, lines_of, script_of, fault_of, step_meant, script_meant, IsWithin, AreWithin, IsFault};
 
 use crate::fault::{ScriptFault, Why};
 use crate::step::{SessionNumber, Step};
 use flash_entry::{HeadFault, read_head};
 use flash_names::{Geometry, cut_at_byte, read_number, split_word};
-use std::alloc::{AllocError, Global};
+use std::alloc::{AllocFailed, Global};
 
 /// The most bytes of a script.
 pub const MAX_BYTES: usize = 16_777_216;
@@ -27,24 +31,40 @@ pub enum NotRead {
     NoMemory,
 }
 
-impl From<AllocError> for NotRead {
-    fn from(_: AllocError) -> NotRead {
+impl From<AllocFailed<Step>> for NotRead {
+    ghost from_gives = { λ _ fault. fault ≡ NoMemory };
+
+    fn from(_: AllocFailed<Step>) -> NotRead {
         NotRead::NoMemory
     }
 }
 
-/// Reads a script of at most 16,777,216 bytes, or finds its first bad line.
+/// The word that a step's line begins with.
+#[derive(Clone, Copy)]
+pub enum StepWord {
+    Clock,
+    Say,
+    Run,
+}
+
+/// Reads a script, or finds its first bad line.
 pub fn read_script(alloc: Global, bytes: &[u8]) -> Result<Script, NotRead>
-    requires { length bytes.now ≤ 16777216 }
+    ensures read { IfOk result (λ script. script_of bytes.now ≡ Some (script_meant bytes.now script)) }
+    ensures within { IfOk result (λ script. AreWithin (length bytes.now) script.steps.items) }
+    ensures seated { IfOk result (λ script. AreSeated (script_meant bytes.now script).steps) }
+    ensures bad { IfErr result (IsFault (fault_of bytes.now)) }
 {
-    let Some((head, rest)) = cut_at_byte(b'\n', bytes) else {
+    if bytes.len() > MAX_BYTES {
+        return Err(bad(0, Why::TooLong));
+    }
+    let Some((head, _)) = cut_at_byte(b'\n', bytes) else {
         return Err(bad(1, Why::Short));
     };
     let geometry = match read_head(head) {
         Ok(geometry) => geometry,
         Err(fault) => return Err(bad(1, why_of(fault))),
     };
-    let head_end = bytes.len() - rest.len();
+    let head_end = head.len() + 1;
     let steps = read_steps(alloc, bytes, head_end)?;
     Ok(Script {
         geometry,
@@ -53,11 +73,15 @@ pub fn read_script(alloc: Global, bytes: &[u8]) -> Result<Script, NotRead>
     })
 }
 
-fn bad(line: u32, why: Why) -> NotRead {
+fn bad(line: u32, why: Why) -> NotRead
+    ensures { result ≡ NotRead.Fault (record { line = line; why = why }) }
+{
     NotRead::Fault(ScriptFault { line, why })
 }
 
-fn why_of(fault: HeadFault) -> Why {
+fn why_of(fault: HeadFault) -> Why
+    ensures { result ≡ why_of fault }
+{
     match fault {
         HeadFault::BadWord => Why::BadWord,
         HeadFault::BadNumber => Why::BadNumber,
@@ -65,66 +89,99 @@ fn why_of(fault: HeadFault) -> Why {
     }
 }
 
-// The steps of the lines from this place on.
-fn read_steps(alloc: Global, bytes: &[u8], start: usize) -> Result<Vec<Step>, NotRead>
-    requires within { start ≤ length bytes.now }
+// The steps of the lines behind the first one, which ends at this place.
+fn read_steps(alloc: Global, bytes: &[u8], head_end: usize) -> Result<Vec<Step>, NotRead>
+    requires within { head_end ≤ length bytes.now }
     requires small { length bytes.now ≤ 16777216 }
+    ensures good { IfOk result (λ _. fault_from 2 (drop head_end bytes.now) ≡ None) }
+    ensures read { IfOk result (λ steps. steps_of (lines_of (drop head_end bytes.now)).whole ≡ Some (map (step_meant bytes.now) steps.items)) }
+    ensures within { IfOk result (λ steps. AreWithin (length bytes.now) steps.items) }
+    ensures bad { IfErr result (IsFault (fault_from 2 (drop head_end bytes.now))) }
 {
     let mut steps = Vec::new(alloc);
-    let mut rest = &bytes[start..];
-    let mut line = 1;
-    'lines: while !rest.is_empty() {
+    let mut start = head_end;
+    'lines: while start < bytes.len() {
         if steps.len() >= MAX_STEPS {
             return Err(bad(0, Why::TooLong));
         }
-        line += 1;
-        let Some((text, behind)) = cut_at_byte(b'\n', rest) else {
-            return Err(bad(line, Why::Short));
-        };
-        let end = bytes.len() - behind.len();
-        match read_step(text, end as u32) {
-            Ok(step) => steps.push(step).map_err(AllocError::from)?,
+        let line = steps.len() as u32 + 2;
+        match read_line(bytes, start) {
+            Ok((step, next)) => {
+                steps.push(step)?;
+                start = next;
+            }
             Err(why) => return Err(bad(line, why)),
         }
-        rest = behind;
     }
     Ok(steps)
 }
 
-// The step of a line whose line feed ends at this place.
-fn read_step(text: &[u8], end: u32) -> Result<Step, Why> {
-    let (word, rest) = split_word(text);
+// The step of the line that begins at this place, and where the next one begins.
+fn read_line(bytes: &[u8], start: usize) -> Result<(Step, usize), Why>
+    requires within { start ≤ length bytes.now }
+    requires small { length bytes.now ≤ 16777216 }
+    ensures cut { IfOk result (λ read. cut_at 10 (drop start bytes.now) ≡ Some (slice_range bytes.now start (read.1 - 1), drop read.1 bytes.now)) }
+    ensures read { IfOk result (λ read. step_of (slice_range bytes.now start (read.1 - 1)) ≡ Ok (step_meant bytes.now read.0)) }
+    ensures bad { IfErr result (λ why. first_fault (cut_at 10 (drop start bytes.now)) ≡ Some why) }
+    ensures within { IfOk result (λ read. IsWithin (length bytes.now) read.0) }
+    ensures next { IfOk result (λ read. (start < read.1) × (read.1 ≤ length bytes.now)) }
+{
+    let Some((text, _)) = cut_at_byte(b'\n', &bytes[start..]) else {
+        return Err(Why::Short);
+    };
+    let end = start + text.len();
+    let step = read_step(bytes, start, end)?;
+    Ok((step, end + 1))
+}
+
+// The step of the line from the place `start` up to its line feed, at the place `end`.
+fn read_step(bytes: &[u8], start: usize, end: usize) -> Result<Step, Why>
+    requires order { start ≤ end }
+    requires within { end ≤ length bytes.now }
+    requires small { length bytes.now ≤ 16777216 }
+    ensures read { MatchResult result
+        (λ step. step_of (slice_range bytes.now start end) ≡ Ok (step_meant bytes.now step))
+        (λ why. step_of (slice_range bytes.now start end) ≡ Err why) }
+    ensures within { IfOk result (IsWithin (length bytes.now)) }
+{
+    let (word, rest) = split_word(&bytes[start..end]);
+    let Some(word) = step_word(word) else {
+        return Err(Why::BadWord);
+    };
     let Some(rest) = rest else {
         return Err(Why::BadWord);
     };
-    if word == b"say".as_slice() {
-        return read_say(rest, end);
+    let (number, said) = split_word(rest);
+    match (word, said) {
+        (StepWord::Clock, None) => read_number(number).map(Step::Clock).ok_or(Why::BadNumber),
+        (StepWord::Run, None) => read_session(number).map(Step::Run).ok_or(Why::BadNumber),
+        (StepWord::Say, Some(said)) => {
+            let Some(session) = read_session(number) else {
+                return Err(Why::BadNumber);
+            };
+            Ok(Step::Say(session, (end - said.len()) as u32, end as u32))
+        }
+        _ => Err(Why::BadWord),
     }
-    let (number, more) = split_word(rest);
-    if more.is_some() {
-        return Err(Why::BadWord);
-    }
-    if word == b"clock".as_slice() {
-        return read_number(number).map(Step::Clock).ok_or(Why::BadNumber);
-    }
-    if word == b"run".as_slice() {
-        return read_session(number).map(Step::Run).ok_or(Why::BadNumber);
-    }
-    Err(Why::BadWord)
 }
 
-fn read_say(rest: &[u8], end: u32) -> Result<Step, Why> {
-    let (number, said) = split_word(rest);
-    let Some(said) = said else {
-        return Err(Why::BadWord);
-    };
-    let session = read_session(number).ok_or(Why::BadNumber)?;
-    let last = end.saturating_sub(1);
-    let first = last.saturating_sub(u32::try_from(said.len()).unwrap_or(u32::MAX));
-    Ok(Step::Say(session, first, last))
+fn step_word(word: &[u8]) -> Option<StepWord>
+    ensures { result ≡ step_word word.now }
+{
+    if word == b"clock".as_slice() {
+        Some(StepWord::Clock)
+    } else if word == b"say".as_slice() {
+        Some(StepWord::Say)
+    } else if word == b"run".as_slice() {
+        Some(StepWord::Run)
+    } else {
+        None
+    }
 }
 
 // A session's number, from 1 to 16.
-fn read_session(word: &[u8]) -> Option<SessionNumber> {
+fn read_session(word: &[u8]) -> Option<SessionNumber>
+    ensures { option_map (λ session. session.number) result ≡ session_of word.now }
+{
     SessionNumber::new(read_number(word)?)
 }

@@ -4,6 +4,9 @@ ghost use Rattle.flash_trace.specs.declared.step.TheConstants.{MAX_SESSIONS};
 /// The most sessions of a script.
 pub const MAX_SESSIONS: u32 = 16;
 
+// A script has many steps, and each is kept.
+const _: () = prove!(size_of::<Step>() <= 24);
+
 /// The number of a session of a script, from 1 to 16. Session n acts as pass n.
 #[derive(Clone, Copy, Debug, PartialEq, Eq)]
 pub struct SessionNumber {

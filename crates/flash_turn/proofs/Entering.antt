@@ -1,17 +1,18 @@
 -- The steps by which a pass enters keep the rule.
-use Rattle.std.proofs.Common.{◌≡◌, ℕ, ◌+◌, ◌≤◌, ◌%◌, ◌^◌, List, [], ◌∷◌, set, sym, refl, ap, ◌∙◌, subst, arith, Option, Some, None, Box, Bool, cond, true, false, slice_index, slice_set}
+use Rattle.std.proofs.Common.{◌≡◌, ℕ, ◌+◌, ◌≤◌, ◌==◌, eq-eqb, ne_eqb, ◌%◌, ◌^◌, List, [], ◌∷◌, set, sym, refl, ap, ◌∙◌, subst, arith, Option, Some, None, Box, Bool, cond, true, false, slice_index, slice_set}
 use Rattle.std.proofs.Math.Nat.{mod-add-mod}
 use mathlib.Core.Logic.{dite}
 use native.Mathlib.Decide.{ℕ_discrete}
 use mathlib.Core.Option.{some, none}
 use lib.ListN.{get_elem?}
+use prog.Atomic.{either}
 use Rattle.atomic_table.specs.Table.{State, Allows, keeps, takes}
 use Rattle.atomic_table.proofs.Lists.{one_turn}
 use Rattle.flash_names.specs.Shared.{Begins, own_of}
 use Rattle.flash_turn.specs.declared.view.View.{View}
 use Rattle.flash_turn.specs.Counts.{total, one_if_at, waits, waits_at, holds_value, given, times}
 use Rattle.flash_turn.specs.Rule.{Knows, Kept}
-use Rattle.flash_turn.specs.Steps.{Self, Draws, Looks}
+use Rattle.flash_turn.specs.Steps.{Self, DrawsAt, Looks}
 use Rattle.flash_turn.proofs.Totals.{total-set, total_same, total_lt, total_few, some_most, at_here}
 use Rattle.flash_turn.proofs.Lists.{each_set}
 use Rattle.flash_turn.proofs.Queues.{queue_draws, queue_same}
@@ -40,28 +41,49 @@ module _ {T E O F A : Type 0} (story : T → Option (List E)) (own : T → List 
     unknown = λ x nobody. kept.unknown x (sym (total_same (given x) s.views id v w here (ap (times x) numbers)) ∙ nobody);
   }
 
-  pub draws : (n id : ℕ) (v : View T) (c : List (ℕ × Option (Box T A))) → v.ticket ≡ None → Allows (Kept story own fixed) n id (v, c) 0 (λ k. (k + 1) % 2 ^ 64) (Draws (v, c))
-  draws n id v c empty s kept wide here fits =
+  -- a ticket was drawn by a pass that had none
+  drew : (s : State (Option (Box T A)) (View T)) (id : ℕ) (v : View T) (kept : Kept story own fixed s) → get_elem? s.views id ≡ some v → v.ticket ≡ None
+      → Kept story own fixed (record { words = slice_set s.words 0 ((slice_index s.words 0 + 1) % 2 ^ 64); homes = s.homes; views = set s.views id (record v { ticket = Some kept.drawn }) })
+  drew s id v kept here empty =
       let w : View T = record v { ticket = Some kept.drawn } in
-      let knows = kept.known id v here in (
+      let knows = kept.known id v here in
+      record {
+        drawn = kept.drawn + 1;
+        served = kept.served;
+        next = kept.next;
+        value = kept.value;
+        words = ap (λ l. slice_set l 0 ((slice_index l 0 + 1) % 2 ^ 64)) kept.words ∙ ap (λ k. k ∷ kept.served % 2 ^ 64 ∷ kept.next ∷ []) (mod-add-mod kept.drawn (2 ^ 64) 1);
+        queue = queue_draws kept.drawn kept.served s.views id v w here empty refl kept.queue;
+        numbered = numbered_same kept.next s.views id v w here refl refl refl kept.numbered;
+        home = λ nobody. kept.home (sym (total_same holds_value s.views id v w here refl) ∙ nobody);
+        known = each_set (Knows story own fixed kept.served kept.value) (Knows story own fixed kept.served kept.value) s.views id w kept.known (λ j u other there ok. ok)
+            (record { seen = knows.seen; met = knows.met; left = knows.left; out = λ has. let o = knows.out has in absurd (cc (empty, o.0)) });
+        unknown = λ x nobody. kept.unknown x (sym (total_same (given x) s.views id v w here refl) ∙ nobody);
+      }
+
+  -- a pass that has no ticket draws one where the number of those drawn is `old`
+  pub draws : (slots id old : ℕ) (m : Self T A) → m.0.ticket ≡ None → Allows (Kept story own fixed) slots id m 0 (λ k. either (k == old) ((old + 1) % 2 ^ 64) k) (DrawsAt old m)
+  draws slots id old m empty s kept wide here fits =
+      let x : ℕ = slice_index s.words 0 in
+      let v : View T = m.0 in
+      let w : View T = record v { ticket = Some kept.drawn } in
+      let after : View T → ℕ → State (Option (Box T A)) (View T) = λ u k. record { words = slice_set s.words 0 k; homes = s.homes; views = set s.views id u } in
+      dite (ℕ_discrete x old)
+      (λ hit. (
         w,
         keeps,
         tt,
-        record {
-          drawn = kept.drawn + 1;
-          served = kept.served;
-          next = kept.next;
-          value = kept.value;
-          words = ap (λ l. slice_set l 0 ((slice_index l 0 + 1) % 2 ^ 64)) kept.words ∙ ap (λ k. k ∷ kept.served % 2 ^ 64 ∷ kept.next ∷ []) (mod-add-mod kept.drawn (2 ^ 64) 1);
-          queue = queue_draws kept.drawn kept.served s.views id v w here empty refl kept.queue;
-          numbered = numbered_same kept.next s.views id v w here refl refl refl kept.numbered;
-          home = λ nobody. kept.home (sym (total_same holds_value s.views id v w here refl) ∙ nobody);
-          known = each_set (Knows story own fixed kept.served kept.value) (Knows story own fixed kept.served kept.value) s.views id w kept.known (λ j u other there ok. ok)
-              (record { seen = knows.seen; met = knows.met; left = knows.left; out = λ has. let o = knows.out has in absurd (cc (empty, o.0)) });
-          unknown = λ x nobody. kept.unknown x (sym (total_same (given x) s.views id v w here refl) ∙ nobody);
-        },
-        (kept.drawn, ap (λ l. slice_index l 0) kept.words, refl),
-      )
+        subst (λ b. Kept story own fixed (after w (either b ((old + 1) % 2 ^ 64) x))) (sym (eq-eqb x old hit)) (subst (λ k. Kept story own fixed (after w ((k + 1) % 2 ^ 64))) hit (drew s id v kept here empty)),
+        ((λ _. (kept.drawn, ap (λ l. slice_index l 0) kept.words, refl)), (λ miss. absurd (miss hit))),
+      ))
+      (λ miss. (
+        v,
+        keeps,
+        tt,
+        subst (λ b. Kept story own fixed (after v (either b ((old + 1) % 2 ^ 64) x))) (sym (ne_eqb x old miss))
+            (quiet s id v v (slice_set s.words 0 x) kept here (ap (λ l. slice_set l 0 (slice_index l 0)) kept.words ∙ sym kept.words) refl refl refl refl refl (kept.known id v here)),
+        ((λ hit. absurd (miss hit)), (λ _. refl)),
+      ))
 
   -- the pass whose ticket is served finds the value at home
   found : (s : State (Option (Box T A)) (View T)) (id : ℕ) (v : View T) (kept : Kept story own fixed s) → get_elem? s.views id ≡ some v → v.ticket ≡ Some kept.served → v.has ≡ false → total holds_value s.views ≡ 0

@@ -1,5 +1,5 @@
 -- What each step tells the pass that makes it: `m` is what it was, `r` what the step found, and `n` what it is.
-use Rattle.std.specs.Prelude.{◌≡◌, ◌≢◌, ℕ, ◌%◌, ◌^◌, ◌<◌, ◌≤◌, true, false, List, [], ◌∷◌, ◌++◌, Option, Some, None, Box, nat_lt, if◌then◌else◌}
+use Rattle.std.specs.Prelude.{◌≡◌, ◌≢◌, ℕ, ◌%◌, ◌^◌, ◌<◌, ◌≤◌, true, false, List, [], ◌∷◌, ◌++◌, Option, Some, None, Box, nat_lt, if◌then◌else◌, MatchOption}
 use Rattle.atomic_table.specs.Table.{Me}
 use Rattle.flash_names.specs.Shared.{Begins, told_length, own_of}
 use Rattle.flash_turn.specs.declared.view.View.{View}
@@ -46,6 +46,14 @@ module _ {T A : Type 0} where
   -- a ticket was drawn: the number found is the ticket's remainder
   abbrev pub Draws : Self T A → ℕ → Self T A → Type 0
   Draws m r n = (k : ℕ) × (r ≡ k % 2 ^ 64) × (n ≡ (record m.0 { ticket = Some k }, m.1))
+
+  -- the same where there is a ticket, and else nothing changed
+  abbrev pub MayDraw : Self T A → Option ℕ → Self T A → Type 0
+  MayDraw m ticket n = MatchOption ticket (n ≡ m) (λ r. Draws m r n)
+
+  -- a ticket was drawn, if the number found is `first`, and else nothing changed
+  abbrev pub DrawsAt : ℕ → Self T A → ℕ → Self T A → Type 0
+  DrawsAt first m r n = (r ≡ first → Draws m r n) × (r ≢ first → n ≡ m)
 
   -- the value in the slot was given back, and the next ticket is served
   abbrev pub Serves : Self T A → ℕ → Self T A → Type 0

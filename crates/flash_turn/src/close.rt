@@ -20,7 +20,7 @@ impl<T: Shared + Drop> Turn<T> {
         requires { IsPassOf T.fixed self pass }
         ensures { Closes T.story T.own T.fixed Global self pass result }
     {
-        let Turn { table, gate: _ } = self;
+        let Turn { table, sleepers: _ } = self;
         let Pass { seat, number: _ } = pass;
         let mut closed = table.close_with(seat);
         let tickets = closed.word(0);

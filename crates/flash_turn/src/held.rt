@@ -46,6 +46,6 @@ impl<'a, T: Shared> HeldIn<'a, T, Box<T>> {
         let none = shared.exchange(&mut pass.seat, 0, Some(value));
         let None = none else { unreachable!() };
         shared.fetch_add::<Serve>(&mut pass.seat, 1, 1);
-        turn.gate.open();
+        turn.sleepers.wake_one();
     }
 }

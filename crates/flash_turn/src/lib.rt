@@ -2,12 +2,13 @@
 #![tactic(auto)]
 
 mod close;
-mod gate;
+mod draw;
 mod held;
 mod join;
 mod lends;
 mod pass;
 mod rule;
+mod sleepers;
 mod split;
 mod turn;
 mod view;

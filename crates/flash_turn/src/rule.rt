@@ -1,6 +1,6 @@
 // The rule of the table, and the names of its steps.
 ghost use Rattle.flash_turn.specs.Rule.{Kept};
-ghost use Rattle.flash_turn.specs.Steps.{first_view, split_left, split_right, Draws, Looks, Serves, Numbers, PutsBack, spent_view, joined_view, Compares};
+ghost use Rattle.flash_turn.specs.Steps.{first_view, split_left, split_right, DrawsAt, Looks, Serves, Numbers, PutsBack, spent_view, joined_view, Compares};
 
 use crate::{Shared, View};
 use atomic_table::{Join, Play, Split, TableRule};
@@ -21,11 +21,11 @@ impl<T: Shared> TableRule<Slot<T>, View<T>, Snapshot<T>> for Rule<T> {
     ghost first = { λ start. first_view start.value };
 }
 
-/// A ticket is drawn.
+/// A ticket is drawn, if the number of those drawn is the one that the pass looked for.
 pub struct Draw;
 
 impl<T> Play<Slot<T>, View<T>> for Draw {
-    ghost then = { λ step m r n. Draws m r n };
+    ghost then = { λ step. DrawsAt step.first };
 }
 
 /// The served ticket is read, and the value taken if it is the pass's own.

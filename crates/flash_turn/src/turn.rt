@@ -1,8 +1,8 @@
 ghost use Rattle.std.specs.Prelude.{◌≡◌, [], ◌∷◌, Some, None, Box, IfOk, IfErr};
 
-use crate::gate::Gate;
 use crate::held::{Held, HeldIn};
-use crate::rule::{Draw, Look, Rule, Slot};
+use crate::rule::{Look, Rule, Slot};
+use crate::sleepers::Sleepers;
 use crate::{Pass, Shared, View};
 use atomic_table::{Refused, Table};
 use std::alloc::{AllocFailed, Global};
@@ -14,7 +14,7 @@ use std::thread::yield_now;
 #[derive(Drop)]
 pub struct Turn<T: Shared> {
     pub(crate) table: Table<Slot<T>, View<T>, Snapshot<T>, Rule<T>, Global>,
-    pub(crate) gate: Gate,
+    pub(crate) sleepers: Sleepers,
     ghost sized: { (table.shared.table_id.words ≡ 3) × (table.shared.table_id.slots ≡ 1) },
 }
 
@@ -43,7 +43,7 @@ impl<T: Shared> Turn<T> {
             Ok((table, seat)) => {
                 let turn = Turn {
                     table,
-                    gate: Gate::new(),
+                    sleepers: Sleepers::new(),
                 };
                 Ok((turn, Pass { seat, number: 1 }))
             }
@@ -62,7 +62,6 @@ impl<T: Shared> Turn<T> {
         ensures value { value_of result ≡ taken_of result }
         ensures told { Meets T.story T.own T.fixed self.now pass.old (taken_of result) }
     {
-        self.gate.pass(rt);
         let value = self.take(rt, pass);
         let taken = Snapshot::of(&*value);
         HeldIn {
@@ -84,7 +83,7 @@ impl<T: Shared> Turn<T> {
         ensures told { Meets T.story T.own T.fixed self.now pass.old result.value }
     {
         let shared = &self.table.shared;
-        let ticket = shared.fetch_add::<Draw>(&mut pass.seat, 0, 1);
+        let ticket = self.draw(rt, pass);
         for _ in rt.forever() {
             if shared.load::<Look<T>>(&mut pass.seat, 1) == ticket {
                 return shared.exchange(&mut pass.seat, 0, None).unwrap();

@@ -1,12 +1,16 @@
-use Rattle.std.proofs.Common.{◌≡◌, ◌+◌, ◌≤◌, length, vec_len}
+use Rattle.std.proofs.Common.{◌≡◌, ◌+◌, ◌-◌, ◌≤◌, ◌++◌, length, drop, vec_len, map, option_map}
+use Rattle.flash_trace.specs.Scripts.{lines_of, steps_of, fault_from, step_meant, AreWithin}
 use Rattle.flash_trace.proofs.script.read_steps.Given as goal
 
--- each line so far is a step, and what is left is a part of the script
+-- no line so far is bad, their steps are these, and the lines that are left have the rest of the faults and steps
 abbrev pub invariant-lines : goal.invariant-lines
 invariant-lines l = record {
-  counted : l.line ≡ vec_len l.steps + 1;
-  within : length l.rest ≤ length l.bytes;
+  inside : l.start ≤ length l.bytes;
+  few : vec_len l.steps ≤ 1048576;
+  fault : fault_from (vec_len l.steps + 2) (drop l.start l.bytes) ≡ fault_from 2 (drop l.head_end l.bytes);
+  read : option_map (λ more. map (step_meant l.bytes) l.steps.items ++ more) (steps_of (lines_of (drop l.start l.bytes)).whole) ≡ steps_of (lines_of (drop l.head_end l.bytes)).whole;
+  within : AreWithin (length l.bytes) l.steps.items;
 }
 
 abbrev pub decreases-lines : goal.decreases-lines
-decreases-lines l = length l.rest
+decreases-lines l = length l.bytes - l.start

@@ -1,17 +1,14 @@
 use Rattle.std.proofs.Common.{◌≡◌, rules, Some, box_value, IsSome, subst, sym, ◌∙◌, ap, refl}
 use Rattle.flash_turn.specs.Passes.{Meets}
-use Rattle.flash_turn.proofs.Entering.{draws, looks_from}
+use Rattle.flash_turn.proofs.Entering.{looks_from}
 use Rattle.flash_turn.proofs.Handed.{taken_me, meets, taken_holding, found_own, found_other, slot_of, moved_out, holding_of}
 use Rattle.flash_turn.proofs.turn.Turn.take.Goals as goal
 
-pub fetch_add-ticket-requires : goal.fetch_add-ticket-requires
-fetch_add-ticket-requires g c = let h = c.requires in (h.table, search rules, draws g.T.Shared.story g.T.Shared.own g.T.Shared.fixed _ _ _ _ h.idle.ticket)
-
 pub loop-init : goal.loop-init
-loop-init g c = let e = c.fetch_add-ticket.ensures in let d = e.2 in record {
-  table = e.0;
-  number = refl;
-  waits = (d.0, d.1, d.2 ∙ ap (λ l. (record c.args.pass.now.seat.me.0 { ticket = Some d.0 }, l)) c.requires.slots);
+loop-init g c = let d = c.draw-ticket.ensures in record {
+  table = d.table;
+  number = d.number;
+  waits = (d.drawn.0, d.drawn.1, d.drawn.2 ∙ ap (λ l. (record c.args.pass.now.seat.me.0 { ticket = Some d.drawn.0 }, l)) c.requires.slots);
 }
 
 pub load-requires : goal.load-requires

@@ -1,0 +1,67 @@
+-- A script by its first line.
+use Rattle.std.proofs.Common.{◌≡◌, ℕ, ◌+◌, ◌≤◌, false, nat_lt, List, [], ◌∷◌, ◌++◌, length, take, drop, Option, None, Some, Result, Ok, Err, if◌then◌else◌, sym, ◌∙◌, ap, arith, append_assoc, length-append, take_at, drop_at}
+use Rattle.std.specs.Prelude.{is_none}
+use Rattle.std.specs.Result.{result_ok, result_map_both}
+use Rattle.std.proofs.lemmas.Bool.Decides.{nat_tests}
+use Rattle.flash_names.specs.declared.geometry.Geometry.{Geometry}
+use Rattle.flash_names.specs.Cut.{cut_at}
+use Rattle.flash_entry.specs.declared.head.HeadFault.{HeadFault}
+use Rattle.flash_entry.specs.Head.{head_of}
+use Rattle.flash_trace.specs.declared.fault.Why.{Why}
+use Rattle.flash_trace.specs.declared.fault.Why.TheVariants.{Short}
+use Rattle.flash_trace.specs.declared.fault.ScriptFault.{ScriptFault}
+use Rattle.flash_trace.specs.Steps.{Step}
+use Rattle.flash_trace.specs.Scripts.{lines_of, why_of, fault_or, too_long, fault_from, lines_fault, fault_of, steps_of, script_of_parts, script_of_lines, script_of}
+use Rattle.flash_trace.proofs.ScriptLines.{lines_cut, lines-cut, cut_joins}
+
+-- where the bytes aren't too many, the lines say the fault
+pub by_lines : (bytes : List ℕ) → length bytes ≤ 16777216 → fault_of bytes ≡ lines_fault (lines_of bytes)
+by_lines bytes small =
+    let in_size : nat_lt 16777216 (length bytes) ≡ false = grind (arith, nat_tests) in
+    ap (λ t. if t then too_long else lines_fault (lines_of bytes)) in_size
+
+-- bytes without a line feed
+pub fault_no_line : (bytes : List ℕ) → length bytes ≤ 16777216 → None ≡ cut_at 10 bytes → fault_of bytes ≡ Some (record { line = 1; why = Short })
+fault_no_line bytes small cut = by_lines bytes small ∙ ap lines_fault (lines-cut bytes ∙ ap (lines_cut bytes) (sym cut))
+
+module _ (bytes head behind : List ℕ) (small : length bytes ≤ 16777216) (cut : Some (head, behind) ≡ cut_at 10 bytes) where
+  -- the lines, by the first one
+  lines_are : lines_of bytes ≡ record { whole = head ∷ (lines_of behind).whole; rest = (lines_of behind).rest }
+  lines_are = lines-cut bytes ∙ ap (lines_cut bytes) (sym cut)
+
+  -- the bytes: the first line, its line feed, and what stands behind
+  parts : bytes ≡ (head ++ 10 ∷ []) ++ behind
+  parts = cut_joins 10 bytes head behind cut ∙ sym (append_assoc head (10 ∷ []) behind)
+
+  -- what stands behind the first line
+  behind_is : drop (length head + 1) bytes ≡ behind
+  behind_is = ap (drop (length head + 1)) parts ∙ drop_at (head ++ 10 ∷ []) behind (length head + 1) (length-append head (10 ∷ []))
+
+  -- the first line with its line feed
+  head_is : take (length head + 1) bytes ≡ head ++ 10 ∷ []
+  head_is = ap (take (length head + 1)) parts ∙ take_at (head ++ 10 ∷ []) behind (length head + 1) (length-append head (10 ∷ []))
+
+  -- the first fault, by how the first line was read
+  fault_is : (r : Result Geometry HeadFault) → head_of head ≡ r → fault_of bytes ≡ fault_or 1 (result_map_both (λ geometry. geometry) why_of r) (fault_from 2 (drop (length head + 1) bytes))
+  fault_is r read =
+      by_lines bytes small ∙ ap lines_fault lines_are
+      ∙ ap (λ (r : Result Geometry HeadFault). fault_or 1 (result_map_both (λ geometry. geometry) why_of r) (fault_from 2 behind)) read
+      ∙ ap (λ (l : List ℕ). fault_or 1 (result_map_both (λ geometry. geometry) why_of r) (fault_from 2 l)) (sym behind_is)
+
+  -- a first line that is bad is the first fault
+  pub fault_head : (fault : HeadFault) → head_of head ≡ Err fault → fault_of bytes ≡ Some (record { line = 1; why = why_of fault })
+  fault_head fault read = fault_is (Err fault) read
+
+  module _ (geometry : Geometry) (read : head_of head ≡ Ok geometry) where
+    -- and else it is one of the other lines'
+    pub fault_behind : fault_of bytes ≡ fault_from 2 (drop (length head + 1) bytes)
+    fault_behind = fault_is (Ok geometry) read
+
+    -- the reading of a script without a fault
+    pub script_is : (steps : List Step) → fault_from 2 (drop (length head + 1) bytes) ≡ None → steps_of (lines_of (drop (length head + 1) bytes)).whole ≡ Some steps
+        → script_of bytes ≡ Some (record { geometry = geometry; head = take (length head + 1) bytes; steps = steps })
+    script_is steps good are =
+        ap (λ (f : Option ScriptFault). if is_none f then script_of_lines (lines_of bytes) else None) (fault_behind ∙ good) ∙ ap script_of_lines lines_are
+        ∙ ap (λ (r : Result Geometry HeadFault). script_of_parts head (result_ok (result_map_both {D = Why} (λ geometry. geometry) why_of r)) (steps_of (lines_of behind).whole)) read
+        ∙ ap (λ (l : List ℕ). script_of_parts head (Some geometry) (steps_of (lines_of l).whole)) (sym behind_is)
+        ∙ ap (script_of_parts head (Some geometry)) are ∙ ap (λ (h : List ℕ). Some (record { geometry = geometry; head = h; steps = steps })) (sym head_is)

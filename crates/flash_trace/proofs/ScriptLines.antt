@@ -1,0 +1,149 @@
+-- The lines of a script, by how its bytes are cut at their first line feed.
+use Rattle.std.proofs.Common.{◌≡◌, ℕ, ◌+◌, ◌-◌, ◌<◌, ◌≤◌, Bool, true, false, ◌==◌, nat_lt, List, [], ◌∷◌, ◌++◌, length, take, drop, Option, None, Some, Result, Ok, Err, if◌then◌else◌, slice_range, option_map, refl, sym, ◌∙◌, ap, arith, take_at, drop_at, append_assoc, length-append, drop-drop}
+use Rattle.std.specs.Option.{option_and_then}
+use Rattle.std.specs.Result.{result_ok, result_err}
+use Rattle.std.proofs.lemmas.Bool.Decides.{nat_tests}
+use Rattle.flash_names.specs.Cut.{cut_at}
+use Rattle.flash_trace.specs.declared.fault.Why.{Why}
+use Rattle.flash_trace.specs.declared.fault.Why.TheVariants.{Short}
+use Rattle.flash_trace.specs.declared.fault.ScriptFault.{ScriptFault}
+use Rattle.flash_trace.specs.Steps.{Step}
+use Rattle.flash_trace.specs.Scripts.{Lines, lines_of, in_first_line, step_of, first_fault, fault_or, steps_fault, fault_from, steps_of, too_long}
+
+-- the lines of bytes, by how they are cut at their first line feed
+abbrev pub lines_cut : List ℕ → Option (List ℕ × List ℕ) → Lines
+lines_cut bytes None = record { whole = []; rest = bytes }
+lines_cut bytes (Some parts) = record { whole = parts.0 ∷ (lines_of parts.1).whole; rest = (lines_of parts.1).rest }
+
+-- a byte in front of bytes that are cut
+abbrev in_front : ℕ → Option (List ℕ × List ℕ) → Option (List ℕ × List ℕ)
+in_front b cut = option_map (λ parts. (b ∷ parts.0, parts.1)) cut
+
+-- a byte in front of the first line
+lines_in_front : (b : ℕ) (bytes : List ℕ) (cut : Option (List ℕ × List ℕ)) → in_first_line b (lines_cut bytes cut) ≡ lines_cut (b ∷ bytes) (in_front b cut)
+lines_in_front b bytes None = refl
+lines_in_front b bytes (Some parts) = refl
+
+-- a line feed or another byte in front
+by_test : (b : ℕ) (bytes : List ℕ) (feed : Bool) (cut : Option (List ℕ × List ℕ)) (lines : Lines) → lines ≡ lines_cut bytes cut
+    → (if feed then record { whole = [] ∷ (lines_of bytes).whole; rest = (lines_of bytes).rest } else in_first_line b lines)
+    ≡ lines_cut (b ∷ bytes) (if feed then Some ([], bytes) else in_front b cut)
+by_test b bytes true cut lines is = refl
+by_test b bytes false cut lines is = ap (in_first_line b) is ∙ lines_in_front b bytes cut
+
+-- the lines of bytes: the first one, and those of what stands behind it
+pub lines-cut : (bytes : List ℕ) → lines_of bytes ≡ lines_cut bytes (cut_at 10 bytes)
+lines-cut [] = refl
+lines-cut (b ∷ bytes) = by_test b bytes (b == 10) (cut_at 10 bytes) (lines_of bytes) (lines-cut bytes)
+
+-- the bytes that were cut, by their parts
+abbrev joined : ℕ → List ℕ → Option (List ℕ × List ℕ) → List ℕ
+joined c bytes None = bytes
+joined c bytes (Some parts) = parts.0 ++ c ∷ parts.1
+
+-- a byte in front of bytes that were cut
+joined_in_front : (c b : ℕ) (bytes : List ℕ) (cut : Option (List ℕ × List ℕ)) → joined c (b ∷ bytes) (in_front b cut) ≡ b ∷ joined c bytes cut
+joined_in_front c b bytes None = refl
+joined_in_front c b bytes (Some parts) = refl
+
+-- the same, where the byte may be the one at which they are cut
+joined_more : (c b : ℕ) (bytes : List ℕ) (same : Bool) (cut : Option (List ℕ × List ℕ)) → (b == c) ≡ same → joined c bytes cut ≡ bytes
+    → joined c (b ∷ bytes) (if same then Some ([], bytes) else in_front b cut) ≡ b ∷ bytes
+joined_more c b bytes true cut test is = let e : b ≡ c = grind (arith, nat_tests) in cc
+joined_more c b bytes false cut test is = joined_in_front c b bytes cut ∙ ap (λ (l : List ℕ). b ∷ l) is
+
+-- bytes that were cut, put together again
+joined-cut : (c : ℕ) (bytes : List ℕ) → joined c bytes (cut_at c bytes) ≡ bytes
+joined-cut c [] = refl
+joined-cut c (b ∷ bytes) = joined_more c b bytes (b == c) (cut_at c bytes) refl (joined-cut c bytes)
+
+-- bytes that are cut are their parts, with the byte between
+pub cut_joins : (c : ℕ) (bytes front behind : List ℕ) → Some (front, behind) ≡ cut_at c bytes → bytes ≡ front ++ c ∷ behind
+cut_joins c bytes front behind is = sym (ap (joined c bytes) is ∙ joined-cut c bytes)
+
+module _ (bytes : List ℕ) (start : ℕ) (text behind : List ℕ) (cut : Some (text, behind) ≡ cut_at 10 (drop start bytes)) where
+  -- the first line from a place on, as the code takes it
+  pub line_is : slice_range bytes start (start + length text) ≡ text
+  line_is =
+      let size : start + length text - start ≡ length text = omega arith in
+      ap (λ (n : ℕ). take n (drop start bytes)) size ∙ ap (take (length text)) (cut_joins 10 (drop start bytes) text behind cut) ∙ take_at text (10 ∷ behind) (length text) refl
+
+  -- and what stands behind its line feed
+  pub behind_is : drop (start + length text + 1) bytes ≡ behind
+  behind_is =
+      let size : start + length text + 1 ≡ start + (length text + 1) = omega arith in
+      ap (λ (n : ℕ). drop n bytes) size ∙ sym (drop-drop (length text + 1) start bytes) ∙ ap (drop (length text + 1)) (cut_joins 10 (drop start bytes) text behind cut ∙ sym (append_assoc text (10 ∷ []) behind))
+      ∙ drop_at (text ++ 10 ∷ []) behind (length text + 1) (length-append text (10 ∷ []))
+
+  -- how the code cuts the bytes from a place on
+  pub cut_is : cut_at 10 (drop start bytes) ≡ Some (slice_range bytes start (start + length text + 1 - 1), drop (start + length text + 1) bytes)
+  cut_is =
+      let size : start + length text + 1 - 1 ≡ start + length text = omega arith in
+      let line : slice_range bytes start (start + length text + 1 - 1) ≡ text = ap (slice_range bytes start) size ∙ line_is in
+      sym cut ∙ ap (λ (l : List ℕ). Some (l, behind)) (sym line) ∙ ap (λ (l : List ℕ). Some (slice_range bytes start (start + length text + 1 - 1), l)) (sym behind_is)
+
+  -- a first line that can't be read
+  pub bad_line : (why : Why) → step_of (slice_range bytes start (start + length text)) ≡ Err why → first_fault (cut_at 10 (drop start bytes)) ≡ Some why
+  bad_line why is = ap first_fault (sym cut) ∙ ap (λ (l : List ℕ). result_err (step_of l)) (sym line_is) ∙ ap result_err is
+
+module _ (bytes text behind : List ℕ) (cut : cut_at 10 bytes ≡ Some (text, behind)) (step : Step) (read : step_of text ≡ Ok step) where
+  -- the lines, by their first one
+  lines_first : lines_of bytes ≡ record { whole = text ∷ (lines_of behind).whole; rest = (lines_of behind).rest }
+  lines_first = lines-cut bytes ∙ ap (lines_cut bytes) cut
+
+  -- where the first line is a step, it stands in front of the steps of the others
+  pub steps_more : steps_of (lines_of bytes).whole ≡ option_map (λ more. step ∷ more) (steps_of (lines_of behind).whole)
+  steps_more =
+      let behind_steps = steps_of (lines_of behind).whole in
+      ap (λ (lines : Lines). steps_of lines.whole) lines_first
+      ∙ ap (λ (r : Result Step Why). option_and_then (λ s. option_map (λ steps. s ∷ steps) behind_steps) (result_ok r)) read
+
+  -- and the first fault is one of theirs
+  pub fault_more : (line : ℕ) → line ≤ 1048577 → fault_from line bytes ≡ fault_from (line + 1) behind
+  fault_more line few =
+      let later = fault_from (line + 1) behind in
+      let in_range : nat_lt 1048577 line ≡ false = grind (arith, nat_tests) in
+      ap (λ (lines : Lines). steps_fault line lines.whole lines.rest) lines_first ∙ ap (λ b. if b then too_long else fault_or line (step_of text) later) in_range
+      ∙ ap (λ (r : Result Step Why). fault_or line r later) read
+
+-- bytes that no line feed ends
+bad_rest : (bytes : List ℕ) (line : ℕ) (why : Why) → nat_lt 1048577 line ≡ false → 0 < length bytes → Short ≡ why → steps_fault line [] bytes ≡ Some (record { line = line; why = why })
+bad_rest [] line why few some is = absurd (omega arith)
+bad_rest (b ∷ bytes) line why few some is =
+    ap (λ t. if t then too_long else Some (record { line = line; why = Short })) few ∙ ap (λ (w : Why). Some (record { line = line; why = w })) is
+
+-- a line that can't be read
+bad_step : (line : ℕ) (why : Why) (r : Result Step Why) (later : Option ScriptFault) → result_err r ≡ Some why → fault_or line r later ≡ Some (record { line = line; why = why })
+bad_step line why (Ok step) later is = absurd (cc is)
+bad_step line why (Err w) later is = let same : w ≡ why = cc in ap (λ (w : Why). Some (record { line = line; why = w })) same
+
+-- a first line that is bad, by how the bytes are cut
+bad_cut : (bytes : List ℕ) (line : ℕ) (why : Why) (cut : Option (List ℕ × List ℕ)) → nat_lt 1048577 line ≡ false → 0 < length bytes → first_fault cut ≡ Some why
+    → steps_fault line (lines_cut bytes cut).whole (lines_cut bytes cut).rest ≡ Some (record { line = line; why = why })
+bad_cut bytes line why None few some is = bad_rest bytes line why few some (cc)
+bad_cut bytes line why (Some parts) few some is =
+    ap (λ t. if t then too_long else fault_or line (step_of parts.0) (fault_from (line + 1) parts.1)) few
+    ∙ bad_step line why (step_of parts.0) (fault_from (line + 1) parts.1) is
+
+-- a first line that is bad is the first fault
+pub fault_bad : (bytes : List ℕ) (line : ℕ) (why : Why) → line ≤ 1048577 → 0 < length bytes → first_fault (cut_at 10 bytes) ≡ Some why → fault_from line bytes ≡ Some (record { line = line; why = why })
+fault_bad bytes line why few some is =
+    let in_range : nat_lt 1048577 line ≡ false = grind (arith, nat_tests) in
+    ap (λ (lines : Lines). steps_fault line lines.whole lines.rest) (lines-cut bytes) ∙ bad_cut bytes line why (cut_at 10 bytes) in_range some is
+
+-- lines of which the first is one too many
+full_lines : (line : ℕ) (whole : List (List ℕ)) (rest : List ℕ) → nat_lt 1048577 line ≡ true → 0 < length whole + length rest → steps_fault line whole rest ≡ too_long
+full_lines line [] [] many some = absurd (omega arith)
+full_lines line [] (b ∷ rest) many some = ap (λ t. if t then too_long else Some (record { line = line; why = Short })) many
+full_lines line (text ∷ more) rest many some = ap (λ t. if t then too_long else fault_or line (step_of text) (steps_fault (line + 1) more rest)) many
+
+-- some bytes have a line, or stand behind the last line feed
+some_lines : (bytes : List ℕ) (cut : Option (List ℕ × List ℕ)) → 0 < length bytes → 0 < length (lines_cut bytes cut).whole + length (lines_cut bytes cut).rest
+some_lines bytes None some = omega arith
+some_lines bytes (Some parts) some = omega arith
+
+-- a line too many is the first fault
+pub fault_full : (bytes : List ℕ) (line : ℕ) → 1048577 < line → 0 < length bytes → fault_from line bytes ≡ too_long
+fault_full bytes line many some =
+    ap (λ (lines : Lines). steps_fault line lines.whole lines.rest) (lines-cut bytes)
+    ∙ full_lines line (lines_cut bytes (cut_at 10 bytes)).whole (lines_cut bytes (cut_at 10 bytes)).rest (grind (arith, nat_tests)) (some_lines bytes (cut_at 10 bytes) some)

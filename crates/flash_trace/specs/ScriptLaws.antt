@@ -1,0 +1,45 @@
+-- What the definitions of a script say of every string of bytes.
+use Rattle.std.specs.Prelude.{◌≡◌, ◌<◌, ◌≤◌, ℕ, ◌+◌, List, [], ◌∷◌, ◌++◌, length, map, take, drop, Some, Ok, Err, is_some, is_none, is_ok, true}
+use Rattle.std.specs.List.{AllByRecursion}
+use Rattle.flash_trace.specs.declared.fault.Why.{Why}
+use Rattle.flash_trace.specs.Steps.{AreSeated}
+use Rattle.flash_trace.specs.Scripts.{Script, Lines, lines_of, geometry_of, step_of, script_of, fault_of}
+
+-- bytes are read as a script exactly where no line of theirs is bad
+abbrev pub AreReadOrBad : Type 0
+AreReadOrBad = (bytes : List ℕ) → is_some (script_of bytes) ≡ is_none (fault_of bytes)
+
+-- the script of these lines: the first is its geometry's, each other one a step, in order, and a line feed ends the
+-- last one
+pub record IsOfLines (lines : Lines) (script : Script) : Type 0 where
+  pub ended : lines.rest ≡ []
+  pub first : map geometry_of (take 1 lines.whole) ≡ Ok script.geometry ∷ []
+  pub others : map step_of (drop 1 lines.whole) ≡ map Ok script.steps
+  pub few : length script.steps ≤ 1048576
+
+-- a script that was read is that of its lines
+abbrev pub IsReadByLines : Type 0
+IsReadByLines = (bytes : List ℕ) (script : Script) → script_of bytes ≡ Some script → IsOfLines (lines_of bytes) script
+
+-- a line that is a step's
+abbrev pub IsStepLine : List ℕ → Type 0
+IsStepLine line = is_ok (step_of line) ≡ true
+
+-- lines of which one is bad, and those in front of it are good
+pub record HasBadLine (lines : Lines) (good : List (List ℕ)) (why : Why) : Type 0 where
+  pub head : List ℕ
+  pub bad : List ℕ
+  pub more : List (List ℕ)
+  pub parts : lines.whole ≡ head ∷ (good ++ bad ∷ more)
+  pub geometry : is_ok (geometry_of head) ≡ true
+  pub steps : AllByRecursion IsStepLine good
+  pub fault : step_of bad ≡ Err why
+
+-- the first bad line is the fault, with its number: the steps stand on the lines from 2 on
+abbrev pub IsFirstBadLine : Type 0
+IsFirstBadLine = (bytes : List ℕ) (good : List (List ℕ)) (why : Why) → length bytes ≤ 16777216 → length good < 1048576 → HasBadLine (lines_of bytes) good why
+    → fault_of bytes ≡ Some (record { line = length good + 2; why = why })
+
+-- the sessions of a script that was read are from 1 to 16
+abbrev pub HasSeats : Type 0
+HasSeats = (bytes : List ℕ) (script : Script) → script_of bytes ≡ Some script → AreSeated script.steps

@@ -1,0 +1,23 @@
+-- The steps of a script.
+use Rattle.std.specs.Prelude.{ℕ, ◌≤◌, List}
+use Rattle.std.specs.List.{AllByRecursion}
+
+-- a reading of the clock, bytes and a line end for a session, or a session's turn
+pub data Step : Type 0 where
+  Clock : ℕ → Step
+  Say : ℕ → List ℕ → Step
+  Run : ℕ → Step
+
+-- the number is one of a session
+pub record IsSession (number : ℕ) : Type 0 where
+  pub some : 1 ≤ number
+  pub within : number ≤ 16
+
+-- the step's session is one
+abbrev pub IsSeated : Step → Type 0
+IsSeated (Clock reading) = Unit {0}
+IsSeated (Say session bytes) = IsSession session
+IsSeated (Run session) = IsSession session
+
+abbrev pub AreSeated : List Step → Type 0
+AreSeated steps = AllByRecursion IsSeated steps

@@ -1,0 +1,35 @@
+// Laws over every script. Each function has no body: its contract is the law.
+ghost use Rattle.flash_trace.specs.Answers.{EveryPlayIsRight};
+ghost use Rattle.flash_trace.specs.Ends.{EveryTraceIsRight};
+ghost use Rattle.flash_trace.specs.ScriptLaws.{AreReadOrBad, IsReadByLines, IsFirstBadLine, HasSeats};
+
+/// Bytes are read as a script, and in one way, exactly where no line of theirs is bad.
+pub fn each_script_is_read_or_bad()
+    ensures { AreReadOrBad }
+{}
+
+/// A script that was read is that of its lines: each line is read, and in order.
+pub fn each_line_is_read()
+    ensures { IsReadByLines }
+{}
+
+/// Where a line is bad and those in front of it are good, that line is the fault.
+pub fn the_first_bad_line_is_the_fault()
+    ensures { IsFirstBadLine }
+{}
+
+/// The sessions of a script that was read are from 1 to 16.
+pub fn each_session_has_a_seat()
+    ensures { HasSeats }
+{}
+
+/// Steps of sessions from 1 to 16 make a run of the one-thread cache, in which each session is answered as its bytes
+/// and the journal say.
+pub fn every_play_is_right()
+    ensures { EveryPlayIsRight }
+{}
+
+/// Every script without a bad line makes such a run.
+pub fn every_trace_is_right()
+    ensures { EveryTraceIsRight }
+{}
