@@ -111,6 +111,17 @@ pub record HasBegun (with_journal : Option Bool) (left left2 held held2 : Option
   pub is : IsRead with_journal left left2
   pub begun : IsBegun (text_of is.bytes is.journal) held held2
 
+-- What the device was asked, where it was left untouched, or was prepared once, or failed as it was: nothing before the
+-- script was read well, and then that alone
+abbrev pub IsAsked : Type 0 → Type 0 → Type 0 → Status → Type 0
+IsAsked untouched once failed statuses.Done = once
+IsAsked untouched once failed statuses.Usage = untouched
+IsAsked untouched once failed (statuses.Script fault) = untouched
+IsAsked untouched once failed statuses.SourceFault = untouched
+IsAsked untouched once failed statuses.SinkFault = untouched ⊎ once
+IsAsked untouched once failed statuses.PrepareFault = failed
+IsAsked untouched once failed statuses.NoMemory = untouched ⊎ once
+
 -- the script was read, and it has no bad line
 pub record HasReading (with_journal : Option Bool) (left left2 : Option (List ℕ)) : Type 0 where
   pub is : IsRead with_journal left left2

@@ -2,7 +2,8 @@ ghost use Rattle.std.specs.Prelude.{◌≡◌, ◌↔◌, ◌<◌, ◌≤◌, �
 ghost use Rattle.flash_names.specs.Faults.{Rose, Counts};
 ghost use Rattle.flash_names.specs.Source.{IsAtEnd};
 ghost use Rattle.flash_names.specs.Told.{in_front};
-ghost use Rattle.flash_trace.specs.Ends.{journal_wanted, Ends, IsWritten, IsBegun, HasRead, AtDone, AtUsage, AtScript, AtSourceFault, AtSinkFault, AtPrepareFault, AtNoMemory, HasRun, HasRefused, HasBegun, HasReading, IsComplete, EveryTraceIsRight};
+ghost use Rattle.flash_device.specs.Calls.{Called};
+ghost use Rattle.flash_trace.specs.Ends.{journal_wanted, Ends, IsWritten, IsBegun, HasRead, AtDone, AtUsage, AtScript, AtSourceFault, AtSinkFault, AtPrepareFault, AtNoMemory, HasRun, HasRefused, HasBegun, HasReading, IsAsked, IsComplete, EveryTraceIsRight};
 ghost use Rattle.flash_trace.specs.Output.{output};
 ghost use Rattle.flash_trace.specs.Playing.{play_from};
 ghost use Rattle.flash_trace.specs.Scripts.{AreWithin, script_of, script_meant, step_meant};
@@ -43,6 +44,7 @@ pub fn run_trace<S: Source, K: Sink, D: Device>(
     ensures prepare_fault { AtPrepareFault result (Rose (D.faults device.old) (D.faults device.new) × (sink.new ≡ sink.old)) }
     ensures good { AtPrepareFault result (HasReading (journal_wanted words.now) (S.left source.old) (S.left source.new)) }
     ensures no_memory { AtNoMemory result (sink.new ≡ sink.old) }
+    ensures device { IsAsked (device.new ≡ device.old) (Called false (D.calls device.old) (D.calls device.new)) (Called true (D.calls device.old) (D.calls device.new)) result }
     ensures complete { IsComplete (journal_wanted words.now) (S.left source.old) (Rose (S.faults source.old) (S.faults source.new)) (Rose (K.faults sink.old) (K.faults sink.new)) (Rose (D.faults device.old) (D.faults device.new)) result }
     ensures right { EveryTraceIsRight }
 {
@@ -133,7 +135,8 @@ fn trace<K: Sink, D: Device>(
     sink: &mut K,
     device: &mut D,
 ) -> Status
-    ensures { Ends bytes.now with_journal (sink.new ≡ sink.old) (Rose (K.faults sink.old) (K.faults sink.new)) (Rose (D.faults device.old) (D.faults device.new)) (D.prepared device.new) (K.held sink.old) (K.held sink.new) result }
+    ensures device { IsAsked (device.new ≡ device.old) (Called false (D.calls device.old) (D.calls device.new)) (Called true (D.calls device.old) (D.calls device.new)) result }
+    ensures ends { Ends bytes.now with_journal (sink.new ≡ sink.old) (Rose (K.faults sink.old) (K.faults sink.new)) (Rose (D.faults device.old) (D.faults device.new)) (D.prepared device.new) (K.held sink.old) (K.held sink.new) result }
 {
     match read_script(alloc, bytes) {
         Ok(script) => run_script(alloc, with_journal, bytes, &script, sink, device),
@@ -161,7 +164,8 @@ fn run_script<K: Sink, D: Device>(
 ) -> Status
     requires reading { script_of bytes.now ≡ Some (script_meant bytes.now script.now) }
     requires within { AreWithin (length bytes.now) script.now.steps.items }
-    ensures { Ends bytes.now with_journal (sink.new ≡ sink.old) (Rose (K.faults sink.old) (K.faults sink.new)) (Rose (D.faults device.old) (D.faults device.new)) (D.prepared device.new) (K.held sink.old) (K.held sink.new) result }
+    ensures device { IsAsked (device.new ≡ device.old) (Called false (D.calls device.old) (D.calls device.new)) (Called true (D.calls device.old) (D.calls device.new)) result }
+    ensures ends { Ends bytes.now with_journal (sink.new ≡ sink.old) (Rose (K.faults sink.old) (K.faults sink.new)) (Rose (D.faults device.old) (D.faults device.new)) (D.prepared device.new) (K.held sink.old) (K.held sink.new) result }
 {
     match device.prepare(script.geometry.pages, script.geometry.page_size) {
         Ok(()) => {}

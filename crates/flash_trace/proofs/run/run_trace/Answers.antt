@@ -8,22 +8,22 @@ pub returns-in-Ok-clause-output : goal.returns-in-Ok-clause-output
 returns-in-Ok-clause-output g c =
     at_done (journal_wanted c.args.words.now) (g.S.Source.left c.args.source.now) (g.S.Source.left c.read_all.new.source) (g.K.Sink.held c.args.sink.now) (g.K.Sink.held c.trace.new.sink)
     (c.trace.new.sink ≡ c.args.sink.now) (Rose (g.K.Sink.faults c.args.sink.now) (g.K.Sink.faults c.trace.new.sink)) (Rose (g.D.Device.faults c.args.device.now) (g.D.Device.faults c.trace.new.device)) (g.D.Device.prepared c.trace.new.device)
-    c.deref.result.now c.in-Some.with_journal (read_bytes _ _ _ _ c.deref.ensures.value c.in-Ok.ensures.read) (sym c.read_words.ensures ∙ c.in-Some.is) c.trace.result c.trace.ensures
+    c.deref.result.now c.in-Some.with_journal (read_bytes _ _ _ _ c.deref.ensures.value c.in-Ok.ensures.read) (sym c.read_words.ensures ∙ c.in-Some.is) c.trace.result c.trace.ensures.ends
 
 pub returns-in-Ok-clause-script : goal.returns-in-Ok-clause-script
 returns-in-Ok-clause-script g c =
     at_script (journal_wanted c.args.words.now) (g.S.Source.left c.args.source.now) (g.S.Source.left c.read_all.new.source) (g.K.Sink.held c.args.sink.now) (g.K.Sink.held c.trace.new.sink)
     (c.trace.new.sink ≡ c.args.sink.now) (Rose (g.K.Sink.faults c.args.sink.now) (g.K.Sink.faults c.trace.new.sink)) (Rose (g.D.Device.faults c.args.device.now) (g.D.Device.faults c.trace.new.device)) (g.D.Device.prepared c.trace.new.device)
-    c.deref.result.now c.in-Some.with_journal (read_bytes _ _ _ _ c.deref.ensures.value c.in-Ok.ensures.read) (sym c.read_words.ensures ∙ c.in-Some.is) c.trace.result c.trace.ensures
+    c.deref.result.now c.in-Some.with_journal (read_bytes _ _ _ _ c.deref.ensures.value c.in-Ok.ensures.read) (sym c.read_words.ensures ∙ c.in-Some.is) c.trace.result c.trace.ensures.ends
 
 pub returns-in-Ok-clause-begun : goal.returns-in-Ok-clause-begun
 returns-in-Ok-clause-begun g c =
     at_begun (journal_wanted c.args.words.now) (g.S.Source.left c.args.source.now) (g.S.Source.left c.read_all.new.source) (g.K.Sink.held c.args.sink.now) (g.K.Sink.held c.trace.new.sink)
     (c.trace.new.sink ≡ c.args.sink.now) (Rose (g.K.Sink.faults c.args.sink.now) (g.K.Sink.faults c.trace.new.sink)) (Rose (g.D.Device.faults c.args.device.now) (g.D.Device.faults c.trace.new.device)) (g.D.Device.prepared c.trace.new.device)
-    c.deref.result.now c.in-Some.with_journal (read_bytes _ _ _ _ c.deref.ensures.value c.in-Ok.ensures.read) (sym c.read_words.ensures ∙ c.in-Some.is) c.trace.result c.trace.ensures
+    c.deref.result.now c.in-Some.with_journal (read_bytes _ _ _ _ c.deref.ensures.value c.in-Ok.ensures.read) (sym c.read_words.ensures ∙ c.in-Some.is) c.trace.result c.trace.ensures.ends
 
 pub returns-in-Ok-clause-good : goal.returns-in-Ok-clause-good
 returns-in-Ok-clause-good g c =
     at_good (journal_wanted c.args.words.now) (g.S.Source.left c.args.source.now) (g.S.Source.left c.read_all.new.source) (g.K.Sink.held c.args.sink.now) (g.K.Sink.held c.trace.new.sink)
     (c.trace.new.sink ≡ c.args.sink.now) (Rose (g.K.Sink.faults c.args.sink.now) (g.K.Sink.faults c.trace.new.sink)) (Rose (g.D.Device.faults c.args.device.now) (g.D.Device.faults c.trace.new.device)) (g.D.Device.prepared c.trace.new.device)
-    c.deref.result.now c.in-Some.with_journal (read_bytes _ _ _ _ c.deref.ensures.value c.in-Ok.ensures.read) (sym c.read_words.ensures ∙ c.in-Some.is) c.trace.result c.trace.ensures
+    c.deref.result.now c.in-Some.with_journal (read_bytes _ _ _ _ c.deref.ensures.value c.in-Ok.ensures.read) (sym c.read_words.ensures ∙ c.in-Some.is) c.trace.result c.trace.ensures.ends
