@@ -8,7 +8,7 @@ use Rattle.flash_device.specs.declared.shape.Shape.{Shape}
 use Rattle.flash_trace.specs.declared.fault.ScriptFault.{ScriptFault}
 use Rattle.flash_trace.specs.declared.fault.Status.{Status}
 use Rattle.flash_trace.specs.declared.fault.Status.TheVariants as statuses
-use Rattle.flash_trace.specs.Ends.{Ends, AtDone, AtScript, AtSinkFault, AtPrepareFault, HasRead, IsRead, HasRun, HasRefused, HasBegun, HasReading, IsComplete}
+use Rattle.flash_trace.specs.Ends.{Ends, AtDone, AtScript, AtSinkFault, HasRead, IsRead, HasRun, HasRefused, HasBegun, HasReading, IsAsked, IsComplete, EveryTraceIsRight}
 use Rattle.flash_trace.specs.declared.fault.Why.TheVariants.{TooLong}
 use Rattle.flash_trace.specs.Scripts.{Script, fault_of, script_of, script_of_lines, too_long, lines_fault, lines_of}
 
@@ -39,14 +39,14 @@ module _ (with_journal : Option Bool) (left left2 held held2 : Option (List ℕ)
     | inr long ↦ absurd (long_is_bad bytes long (good_script (fault_of bytes) (script_of_lines (lines_of bytes)) script reading))
   ]
 
-  pub at_done : (status : Status) → Ends bytes journal untouched sink_rose device_rose prepared held held2 status → AtDone status (HasRun with_journal prepared left left2 held held2)
-  at_done statuses.Done ends = record { is = what; at_end = at_end ends.script ends.reading; runs = ends }
-  at_done statuses.Usage ends = tt
-  at_done (statuses.Script fault) ends = tt
-  at_done statuses.SourceFault ends = tt
-  at_done statuses.SinkFault ends = tt
-  at_done statuses.PrepareFault ends = tt
-  at_done statuses.NoMemory ends = tt
+  pub at_done : EveryTraceIsRight → (status : Status) → Ends bytes journal untouched sink_rose device_rose prepared held held2 status → AtDone status (HasRun with_journal prepared left left2 held held2)
+  at_done right statuses.Done ends = record { is = what; at_end = at_end ends.script ends.reading; runs = ends; right = right bytes ends.script ends.reading }
+  at_done right statuses.Usage ends = tt
+  at_done right (statuses.Script fault) ends = tt
+  at_done right statuses.SourceFault ends = tt
+  at_done right statuses.SinkFault ends = tt
+  at_done right statuses.PrepareFault ends = tt
+  at_done right statuses.NoMemory ends = tt
 
   pub at_script : (status : Status) → Ends bytes journal untouched sink_rose device_rose prepared held held2 status → AtScript status (λ fault. HasRefused fault with_journal left left2 held held2)
   at_script statuses.Done ends = tt
@@ -66,14 +66,14 @@ module _ (with_journal : Option Bool) (left left2 held held2 : Option (List ℕ)
   at_begun statuses.PrepareFault ends = tt
   at_begun statuses.NoMemory ends = tt
 
-  pub at_good : (status : Status) → Ends bytes journal untouched sink_rose device_rose prepared held held2 status → AtPrepareFault status (HasReading with_journal left left2)
-  at_good statuses.Done ends = tt
-  at_good statuses.Usage ends = tt
-  at_good (statuses.Script fault) ends = tt
-  at_good statuses.SourceFault ends = tt
-  at_good statuses.SinkFault ends = tt
-  at_good statuses.PrepareFault ends = record { is = what; good = ends.1.1 }
-  at_good statuses.NoMemory ends = tt
+  pub at_asked : (once failed : Type 0) (status : Status) → IsAsked untouched once failed (fault_of bytes ≡ None) status → IsAsked untouched once failed (HasReading with_journal left left2) status
+  at_asked once failed statuses.Done asked = (asked.0, record { is = what; good = asked.1 })
+  at_asked once failed statuses.Usage asked = asked
+  at_asked once failed (statuses.Script fault) asked = asked
+  at_asked once failed statuses.SourceFault asked = asked
+  at_asked once failed statuses.SinkFault asked = elim asked [ inl untouched ↦ inl untouched | inr once ↦ inr (once.0, record { is = what; good = once.1 }) ]
+  at_asked once failed statuses.PrepareFault asked = (asked.0, record { is = what; good = asked.1 })
+  at_asked once failed statuses.NoMemory asked = elim asked [ inl untouched ↦ inl untouched | inr once ↦ inr (once.0, record { is = what; good = once.1 }) ]
 
 -- what a source that told all its bytes has left
 record Leaves (all bytes : List ℕ) (left2 : Option (List ℕ)) : Type 0 where

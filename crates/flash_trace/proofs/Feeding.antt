@@ -5,7 +5,7 @@ use Rattle.std.proofs.lemmas.Bool.Decides.{nat_tests}
 use Rattle.flash_trace.specs.declared.command.Command.{Command}
 use Rattle.flash_trace.specs.declared.line.SetLine.{SetLine}
 use Rattle.flash_trace.specs.declared.session.Session.{Session}
-use Rattle.flash_trace.specs.Commands.{Reader, InLine, InBlock, Behind, Skipping, Closed, Read, read_from, read_byte}
+use Rattle.flash_trace.specs.Commands.{Reader, InLine, InBlock, Behind, Skipping, Ended, Read, read_from, read_byte}
 use Rattle.flash_trace.specs.Sessions.{reader_of, waiting_of, behind_these, Reads}
 use Rattle.flash_trace.proofs.Feeds.{HasNo}
 
@@ -38,9 +38,9 @@ reads_both old middle new xs ys first second =
     }
 
 -- a session that has ended reads no more
-pub closed : (m : ℕ) (bytes : List ℕ) → read_from m Closed bytes ≡ ([], Closed)
-closed m [] = refl
-closed m (b ∷ bytes) = closed m bytes
+pub ended : (m : ℕ) (bytes : List ℕ) → read_from m Ended bytes ≡ ([], Ended)
+ended m [] = refl
+ended m (b ∷ bytes) = ended m bytes
 
 -- one byte without a command
 no_command : (m : ℕ) (r next : Reader) (b : ℕ) (bytes : List ℕ) → read_byte m r b ≡ ([], next) → read_from m r (b ∷ bytes) ≡ read_from m next bytes
@@ -55,8 +55,8 @@ pushed : (xs : List ℕ) (x : ℕ) (ys : List ℕ) → (xs ++ x ∷ []) ++ ys �
 pushed xs x ys = append_assoc xs (x ∷ []) ys
 
 module _ (m : ℕ) where
-  in_line_byte : (line : List ℕ) (b : ℕ) (short : Bool) → (b == 10) ≡ false → nat_lt (length line + 1) 65536 ≡ short → read_byte m (InLine line) b ≡ ([], (if short then InLine (line ++ b ∷ []) else Closed))
-  in_line_byte line b short other is = rw other (ap (λ (test : Bool). let pair : Read = ([], (if test then InLine (line ++ b ∷ []) else Closed)) in pair) is)
+  in_line_byte : (line : List ℕ) (b : ℕ) (short : Bool) → (b == 10) ≡ false → nat_lt (length line + 1) 65536 ≡ short → read_byte m (InLine line) b ≡ ([], (if short then InLine (line ++ b ∷ []) else Ended))
+  in_line_byte line b short other is = rw other (ap (λ (test : Bool). let pair : Read = ([], (if test then InLine (line ++ b ∷ []) else Ended)) in pair) is)
 
   -- bytes of a line that stays short
   pub line_grows : (line front tail : List ℕ) → HasNo 10 front → length line + length front < 65536 → read_from m (InLine line) (front ++ tail) ≡ read_from m (InLine (line ++ front)) tail
@@ -69,20 +69,20 @@ module _ (m : ℕ) where
       ∙ ap (λ (l : List ℕ). read_from m (InLine l) tail) (pushed line b front)
 
   long_by : (line front tail : List ℕ) (b : ℕ) (short : Bool) → (b == 10) ≡ false → nat_lt (length line + 1) 65536 ≡ short
-      → (length line + 1 < 65536 → read_from m (InLine (line ++ b ∷ [])) (front ++ tail) ≡ ([], Closed)) → read_from m (InLine line) (b ∷ front ++ tail) ≡ ([], Closed)
+      → (length line + 1 < 65536 → read_from m (InLine (line ++ b ∷ [])) (front ++ tail) ≡ ([], Ended)) → read_from m (InLine line) (b ∷ front ++ tail) ≡ ([], Ended)
   long_by line front tail b true other is rest = no_command m (InLine line) (InLine (line ++ b ∷ [])) b (front ++ tail) (in_line_byte line b true other is) ∙ rest (grind (arith, nat_tests))
-  long_by line front tail b false other is rest = no_command m (InLine line) Closed b (front ++ tail) (in_line_byte line b false other is) ∙ closed m (front ++ tail)
+  long_by line front tail b false other is rest = no_command m (InLine line) Ended b (front ++ tail) (in_line_byte line b false other is) ∙ ended m (front ++ tail)
 
   -- bytes of a line that grows too long
-  pub line_ends : (line front tail : List ℕ) → HasNo 10 front → length line < 65536 → 65536 ≤ length line + length front → read_from m (InLine line) (front ++ tail) ≡ ([], Closed)
+  pub line_ends : (line front tail : List ℕ) → HasNo 10 front → length line < 65536 → 65536 ≤ length line + length front → read_from m (InLine line) (front ++ tail) ≡ ([], Ended)
   line_ends line [] tail none short long = absurd (omega arith)
   line_ends line (b ∷ front) tail none short long =
       let parts = first_other 10 b front (b == 10) refl none in
       long_by line front tail b (nat_lt (length line + 1) 65536) parts.0 refl
       (λ fits. line_ends (line ++ b ∷ []) front tail parts.1 (omega (arith, length-append line (b ∷ []))) (omega (arith, length-append line (b ∷ []))))
 
-  in_skip_byte : (skipped b : ℕ) (few : Bool) → (b == 10) ≡ false → nat_lt (skipped + 1) 65536 ≡ few → read_byte m (Skipping skipped) b ≡ ([], (if few then Skipping (skipped + 1) else Closed))
-  in_skip_byte skipped b few other is = rw other (ap (λ (test : Bool). let pair : Read = ([], (if test then Skipping (skipped + 1) else Closed)) in pair) is)
+  in_skip_byte : (skipped b : ℕ) (few : Bool) → (b == 10) ≡ false → nat_lt (skipped + 1) 65536 ≡ few → read_byte m (Skipping skipped) b ≡ ([], (if few then Skipping (skipped + 1) else Ended))
+  in_skip_byte skipped b few other is = rw other (ap (λ (test : Bool). let pair : Read = ([], (if test then Skipping (skipped + 1) else Ended)) in pair) is)
 
   -- bytes of a skip that goes on
   pub skip_grows : (skipped : ℕ) (front tail : List ℕ) → HasNo 10 front → skipped + length front < 65536 → read_from m (Skipping skipped) (front ++ tail) ≡ read_from m (Skipping (skipped + length front)) tail
@@ -95,13 +95,13 @@ module _ (m : ℕ) where
       ∙ skip_grows (skipped + 1) front tail parts.1 (omega arith)
       ∙ ap (λ (n : ℕ). read_from m (Skipping n) tail) same
 
-  many_by : (skipped b : ℕ) (bytes : List ℕ) (few : Bool) → (b == 10) ≡ false → nat_lt (skipped + 1) 65536 ≡ few → (skipped + 1 < 65536 → read_from m (Skipping (skipped + 1)) bytes ≡ ([], Closed))
-      → read_from m (Skipping skipped) (b ∷ bytes) ≡ ([], Closed)
+  many_by : (skipped b : ℕ) (bytes : List ℕ) (few : Bool) → (b == 10) ≡ false → nat_lt (skipped + 1) 65536 ≡ few → (skipped + 1 < 65536 → read_from m (Skipping (skipped + 1)) bytes ≡ ([], Ended))
+      → read_from m (Skipping skipped) (b ∷ bytes) ≡ ([], Ended)
   many_by skipped b bytes true other is rest = no_command m (Skipping skipped) (Skipping (skipped + 1)) b bytes (in_skip_byte skipped b true other is) ∙ rest (grind (arith, nat_tests))
-  many_by skipped b bytes false other is rest = no_command m (Skipping skipped) Closed b bytes (in_skip_byte skipped b false other is) ∙ closed m bytes
+  many_by skipped b bytes false other is rest = no_command m (Skipping skipped) Ended b bytes (in_skip_byte skipped b false other is) ∙ ended m bytes
 
   -- bytes of a skip that grows too long
-  pub skip_ends : (skipped : ℕ) (front tail : List ℕ) → HasNo 10 front → skipped < 65536 → 65536 ≤ skipped + length front → read_from m (Skipping skipped) (front ++ tail) ≡ ([], Closed)
+  pub skip_ends : (skipped : ℕ) (front tail : List ℕ) → HasNo 10 front → skipped < 65536 → 65536 ≤ skipped + length front → read_from m (Skipping skipped) (front ++ tail) ≡ ([], Ended)
   skip_ends skipped [] tail none few many = absurd (omega arith)
   skip_ends skipped (b ∷ front) tail none few many =
       let parts = first_other 10 b front (b == 10) refl none in

@@ -8,6 +8,7 @@ mod Feeds
 mod Going
 mod GoingOn
 mod InMemory
+mod InTurns
 mod Lists
 mod Numbered
 mod Outcomes

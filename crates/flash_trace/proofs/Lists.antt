@@ -1,9 +1,7 @@
 -- Elements of lists by their places, and what holds of each element of two lists.
-use Rattle.std.proofs.Common.{◌≡◌, ◌≢◌, ℕ, ◌-◌, ◌<◌, List, [], ◌∷◌, ◌++◌, length, take, drop, Some, refl, ◌∙◌, ap, arith, zero, suc}
+use Rattle.std.proofs.Common.{◌≡◌, ◌≢◌, ℕ, ◌<◌, List, [], ◌∷◌, ◌++◌, length, Some, refl, arith, zero, suc}
 use Rattle.std.specs.Prelude.{slice_get, slice_set}
 use Rattle.std.specs.List.{AllByRecursion}
-use Rattle.std.proofs.lemmas.List.{length-append}
-use Rattle.std.proofs.Math.Seq.{take-append_seam, drop-append_seam}
 
 module _ {A : Type 0} where
   pub all_append : (P : A → Type 0) (xs ys : List A) → AllByRecursion P xs → AllByRecursion P ys → AllByRecursion P (xs ++ ys)
@@ -37,10 +35,3 @@ module _ {A : Type 0} where
   get-set_other (y ∷ ys) zero (suc j) x other = refl
   get-set_other (y ∷ ys) (suc i) zero x other = refl
   get-set_other (y ∷ ys) (suc i) (suc j) x other = get-set_other ys i j x (λ same. other (omega arith))
-
-  -- the front and the back of two lists, by how long the whole and the back are
-  pub front_is : (xs ys : List A) → take (length (xs ++ ys) - length ys) (xs ++ ys) ≡ xs
-  front_is xs ys = ap (λ (n : ℕ). take n (xs ++ ys)) (omega (arith, length-append xs ys)) ∙ take-append_seam xs ys
-
-  pub back_is : (xs ys : List A) → drop (length (xs ++ ys) - length ys) (xs ++ ys) ≡ ys
-  back_is xs ys = ap (λ (n : ℕ). drop n (xs ++ ys)) (omega (arith, length-append xs ys)) ∙ drop-append_seam xs ys

@@ -2,8 +2,8 @@
 use Rattle.std.proofs.Common.{◌≡◌, ℕ, true, List, [], ◌++◌, refl, sym, ◌∙◌, ap}
 use Rattle.std.proofs.lemmas.List.{append-nil}
 use Rattle.flash_trace.specs.declared.command.Command.{Command}
-use Rattle.flash_trace.specs.Commands.{Reader, Read, InLine, Closed, read_from, commands_of, is_closed}
-use Rattle.flash_trace.proofs.Feeding.{read-append, closed}
+use Rattle.flash_trace.specs.Commands.{Reader, Read, InLine, Ended, read_from, commands_of, has_ended}
+use Rattle.flash_trace.proofs.Feeding.{read-append, ended}
 
 module _ (item_max : ℕ) where
   -- these are the commands of the bytes, and the reader stands behind them
@@ -21,16 +21,16 @@ module _ (item_max : ℕ) where
         reader_is = (λ j. (read_from item_max (read.reader_is j) more).1) ∙ sym (ap (λ (r : Read). r.1) whole);
       }
 
-  -- a closed reader stands where it stood
-  read_closed : (bytes more : List ℕ) (commands : List Command) → IsRead bytes commands Closed → IsRead (bytes ++ more) commands Closed
-  read_closed bytes more commands read =
-      let none = closed item_max more in
-      let same : commands ++ (read_from item_max Closed more).0 ≡ commands = ap (λ (r : Read). commands ++ r.0) none ∙ append-nil commands in
-      let after = read_more bytes more commands Closed read in
+  -- a reader at its end stands where it stood
+  read_ended : (bytes more : List ℕ) (commands : List Command) → IsRead bytes commands Ended → IsRead (bytes ++ more) commands Ended
+  read_ended bytes more commands read =
+      let none = ended item_max more in
+      let same : commands ++ (read_from item_max Ended more).0 ≡ commands = ap (λ (r : Read). commands ++ r.0) none ∙ append-nil commands in
+      let after = read_more bytes more commands Ended read in
       record { commands_are = sym same ∙ after.commands_are; reader_is = sym (ap (λ (r : Read). r.1) none) ∙ after.reader_is }
 
-  pub read_at_end : (bytes more : List ℕ) (commands : List Command) (reader : Reader) → is_closed reader ≡ true → IsRead bytes commands reader → IsRead (bytes ++ more) commands reader
-  read_at_end bytes more commands Closed is read = read_closed bytes more commands read
+  pub read_at_end : (bytes more : List ℕ) (commands : List Command) (reader : Reader) → has_ended reader ≡ true → IsRead bytes commands reader → IsRead (bytes ++ more) commands reader
+  read_at_end bytes more commands Ended is read = read_ended bytes more commands read
   read_at_end bytes more commands _ is read = absurd (cc is)
 
   -- before the first byte

@@ -10,24 +10,26 @@ use Rattle.flash_machine.specs.Cache.{Cache}
 use Rattle.flash_core.specs.Store.{Desk, Call}
 use Rattle.flash_core.specs.Calls.{clock_call}
 use Rattle.flash_trace.specs.declared.command.Command.{Command}
-use Rattle.flash_trace.specs.Answers.{asks_of, bytes_for, bytes_to, IsRight, EveryPlayIsRight}
-use Rattle.flash_trace.specs.Commands.{is_closed}
-use Rattle.flash_trace.specs.Playing.{Seat, Kept, Play, first_play, after_call, act_all, seat_at, with_seat, with_line, fed, say, run, clock, play_step, play_from, play_of}
+use Rattle.flash_trace.specs.Answers.{asks_of, bytes_for, bytes_in_turns, bytes_to, is_turn, IsRight, EveryPlayIsRight}
+use Rattle.flash_trace.specs.Commands.{commands_of}
+use Rattle.flash_trace.specs.Playing.{Seat, Kept, Play, first_play, after_call, act_all, seat_at, with_seat, with_line, fed, say, behind_turn, run, clock, play_step, play_from, play_of}
 use Rattle.flash_trace.specs.Seats.{IsNumbered}
 use Rattle.flash_trace.specs.Steps.{Step, Clock, Say, Run, IsSession, IsSeated, AreSeated}
 use Rattle.flash_trace.proofs.Acted.{IsKept, clock_kept, Serves, act_all_serves, act_all_serves_other, act_all_reader, act_all_waiting}
 use Rattle.flash_trace.proofs.InMemory.{first_here}
+use Rattle.flash_trace.proofs.InTurns.{turned_behind, turned_from_first}
 use Rattle.flash_trace.proofs.Numbered.{step_numbered, first_numbered}
 use Rattle.flash_trace.proofs.Seating.{seat_is, seat_same, seat_other, kept_clock, seats_clock, step_seats, nobody}
 use Rattle.flash_trace.proofs.Served.{KeepsTo, served_behind}
 use Rattle.flash_trace.proofs.UpTo.{IsUpTo, given_none, fed_up, closed_up, first_up, is_answered}
 
--- whatever was played: the store is kept, and each session is up to the bytes that it was given
-pub record Holds (g : Geometry) (p : Play) (given : ℕ → List ℕ) : Type 0 where
+-- whatever was played: the store is kept, and each session is up to the bytes that it was given, and to those of its
+-- last turn
+pub record Holds (g : Geometry) (p : Play) (given turned : ℕ → List ℕ) : Type 0 where
   pub kept : IsKept g p.kept
   pub sixteen : length p.seats ≡ 16
   pub numbered : IsNumbered p
-  pub each : (session : ℕ) → IsSession session → IsUpTo g session (given session) p.kept.journal (seat_at p session)
+  pub each : (session : ℕ) → IsSession session → IsUpTo g session (given session) (turned session) p.kept.journal (seat_at p session)
 
 -- the bytes that a step gives to another session
 other_bytes : (session other : ℕ) (bytes : List ℕ) → other ≢ session → bytes_for other (Say session bytes) ≡ []
@@ -40,15 +42,15 @@ own_bytes session bytes = let yes : nat_eq session session ≡ true = grind (ari
 
 module _ (g : Geometry) where
   -- the sessions after one was put in its place
-  each_with : (p p2 : Play) (session : ℕ) (seat : Seat) (given : ℕ → List ℕ) → length p.seats ≡ 16 → IsSession session → p2.seats ≡ (with_seat p session seat).seats
-      → IsUpTo g session (given session) p2.kept.journal seat
-      → ((other : ℕ) → IsSession other → other ≢ session → IsUpTo g other (given other) p2.kept.journal (seat_at p other))
-      → (other : ℕ) → IsSession other → IsUpTo g other (given other) p2.kept.journal (seat_at p2 other)
-  each_with p p2 session seat given sixteen is seats own others other is_other = elim (cases_eq other session) [
+  each_with : (p p2 : Play) (session : ℕ) (seat : Seat) (given turned : ℕ → List ℕ) → length p.seats ≡ 16 → IsSession session → p2.seats ≡ (with_seat p session seat).seats
+      → IsUpTo g session (given session) (turned session) p2.kept.journal seat
+      → ((other : ℕ) → IsSession other → other ≢ session → IsUpTo g other (given other) (turned other) p2.kept.journal (seat_at p other))
+      → (other : ℕ) → IsSession other → IsUpTo g other (given other) (turned other) p2.kept.journal (seat_at p2 other)
+  each_with p p2 session seat given turned sixteen is seats own others other is_other = elim (cases_eq other session) [
     | inl same ↦
-        subst (λ (n : ℕ). IsUpTo g n (given n) p2.kept.journal (seat_at p2 n)) (sym same)
-        (subst (IsUpTo g session (given session) p2.kept.journal) (sym (seat_same p p2 session seat sixteen is seats)) own)
-    | inr differ ↦ subst (IsUpTo g other (given other) p2.kept.journal) (sym (seat_other p p2 session seat sixteen is seats other is_other differ)) (others other is_other differ)
+        subst (λ (n : ℕ). IsUpTo g n (given n) (turned n) p2.kept.journal (seat_at p2 n)) (sym same)
+        (subst (IsUpTo g session (given session) (turned session) p2.kept.journal) (sym (seat_same p p2 session seat sixteen is seats)) own)
+    | inr differ ↦ subst (IsUpTo g other (given other) (turned other) p2.kept.journal) (sym (seat_other p p2 session seat sixteen is seats other is_other differ)) (others other is_other differ)
   ]
 
   -- a reading of the clock records no step
@@ -57,46 +59,48 @@ module _ (g : Geometry) where
       cond_both (nat_lt c.now _) _ _ (λ (call : Call _). KeepsTo pass asks call.entries) (λ rises. ((λ step is. absurd (cc is)), tt)) (λ stays. tt)
 
   -- so a reading leaves each session up to its bytes
-  clock_each : (p : Play) (line reading : ℕ) (given : ℕ → List ℕ) → Holds g p given → (session : ℕ) → IsSession session
-      → IsUpTo g session (given session) (clock p line reading).kept.journal (seat_at (clock p line reading) session)
-  clock_each p line reading given was session is =
+  clock_each : (p : Play) (line reading : ℕ) (given turned : ℕ → List ℕ) → Holds g p given turned → (session : ℕ) → IsSession session
+      → IsUpTo g session (given session) (turned session) (clock p line reading).kept.journal (seat_at (clock p line reading) session)
+  clock_each p line reading given turned was session is =
       let up = was.each session is in
       let seat = seat_at p session in
       let call = clock_call p.kept.cache p.kept.desk reading in
       let there : seat ≡ seat_at (clock p line reading) session = sym (seat_is p (clock p line reading) session (seats_clock p line reading)) in
-      let after : IsUpTo g session (given session) (after_call p.kept call).journal seat = record {
+      let after : IsUpTo g session (given session) (turned session) (after_call p.kept call).journal seat = record {
         done = up.done;
+        done_are = up.done_are;
         read = up.read;
         served = served_behind g session p.kept.journal call.entries up.done seat.last seat.said (clock_keeps session (asks_of up.done) p.kept.cache p.kept.desk reading) up.served;
+        ended = up.ended;
       } in
-      subst (λ (k : Kept). IsUpTo g session (given session) k.journal (seat_at (clock p line reading) session)) (sym (kept_clock p line reading))
-      (subst (IsUpTo g session (given session) (after_call p.kept call).journal) there after)
+      subst (λ (k : Kept). IsUpTo g session (given session) (turned session) k.journal (seat_at (clock p line reading) session)) (sym (kept_clock p line reading))
+      (subst (IsUpTo g session (given session) (turned session) (after_call p.kept call).journal) there after)
 
   -- a reading of the clock
-  clock_holds : (p : Play) (line reading : ℕ) (given : ℕ → List ℕ) → Holds g p given → Holds g (clock p line reading) (λ session. given session ++ [])
-  clock_holds p line reading given was = record {
+  clock_holds : (p : Play) (line reading : ℕ) (given turned : ℕ → List ℕ) → Holds g p given turned → Holds g (clock p line reading) (λ session. given session ++ []) turned
+  clock_holds p line reading given turned was = record {
     kept = subst (IsKept g) (sym (kept_clock p line reading)) (clock_kept g p.kept reading was.kept);
     sixteen = step_seats g p line (Clock reading) was.sixteen;
     numbered = step_numbered g p line (Clock reading) was.sixteen tt was.numbered;
-    each = λ session is. given_none g session (given session) [] (clock p line reading).kept.journal (seat_at (clock p line reading) session) refl (clock_each p line reading given was session is);
+    each = λ session is. given_none g session (given session) [] (turned session) (clock p line reading).kept.journal (seat_at (clock p line reading) session) refl (clock_each p line reading given turned was session is);
   }
 
   -- bytes for a session
-  module _ (p : Play) (line session : ℕ) (bytes : List ℕ) (given : ℕ → List ℕ) (was : Holds g p given) (is : IsSession session) where
+  module _ (p : Play) (line session : ℕ) (bytes : List ℕ) (given turned : ℕ → List ℕ) (was : Holds g p given turned) (is : IsSession session) where
     -- what each session was given with them
     abbrev after_say : ℕ → List ℕ
     after_say other = given other ++ bytes_for other (Say session bytes)
 
     -- the session itself
-    say_own : (seat : Seat) → IsUpTo g session (given session ++ (bytes ++ 13 ∷ 10 ∷ [])) p.kept.journal seat → IsUpTo g session (after_say session) p.kept.journal seat
-    say_own seat up = subst (λ (more : List ℕ). IsUpTo g session (given session ++ more) p.kept.journal seat) (sym (own_bytes session bytes)) up
+    say_own : (seat : Seat) → IsUpTo g session (given session ++ (bytes ++ 13 ∷ 10 ∷ [])) (turned session) p.kept.journal seat → IsUpTo g session (after_say session) (turned session) p.kept.journal seat
+    say_own seat up = subst (λ (more : List ℕ). IsUpTo g session (given session ++ more) (turned session) p.kept.journal seat) (sym (own_bytes session bytes)) up
 
     -- and the others
-    say_others : (other : ℕ) → IsSession other → other ≢ session → IsUpTo g other (after_say other) p.kept.journal (seat_at p other)
+    say_others : (other : ℕ) → IsSession other → other ≢ session → IsUpTo g other (after_say other) (turned other) p.kept.journal (seat_at p other)
     say_others other is_other differ =
-        given_none g other (given other) (bytes_for other (Say session bytes)) p.kept.journal (seat_at p other) (other_bytes session other bytes differ) (was.each other is_other)
+        given_none g other (given other) (bytes_for other (Say session bytes)) (turned other) p.kept.journal (seat_at p other) (other_bytes session other bytes differ) (was.each other is_other)
 
-    -- where the session is at its end
+    -- where the session is closed
     abbrev closed : Play
     closed = with_line (with_seat p session (seat_at p session)) (codes "closed") line
 
@@ -105,33 +109,37 @@ module _ (g : Geometry) where
     reads = with_seat p session (fed g (seat_at p session) bytes)
 
     -- both ways each session is up to its bytes
-    closed_holds : is_closed (seat_at p session).reader ≡ true → (other : ℕ) → IsSession other → IsUpTo g other (after_say other) closed.kept.journal (seat_at closed other)
-    closed_holds at_end =
+    closed_holds : (seat_at p session).closed ≡ true → (other : ℕ) → IsSession other → IsUpTo g other (after_say other) (turned other) closed.kept.journal (seat_at closed other)
+    closed_holds is_closed =
         let seat = seat_at p session in
-        each_with p closed session seat after_say was.sixteen is refl (say_own seat (closed_up g session (given session) bytes p.kept.journal seat at_end (was.each session is))) say_others
+        each_with p closed session seat after_say turned was.sixteen is refl (say_own seat (closed_up g session (given session) bytes (turned session) p.kept.journal seat is_closed (was.each session is))) say_others
 
-    reads_holds : (other : ℕ) → IsSession other → IsUpTo g other (after_say other) reads.kept.journal (seat_at reads other)
-    reads_holds =
+    reads_holds : (seat_at p session).closed ≡ false → (other : ℕ) → IsSession other → IsUpTo g other (after_say other) (turned other) reads.kept.journal (seat_at reads other)
+    reads_holds is_open =
         let seat = seat_at p session in
-        each_with p reads session (fed g seat bytes) after_say was.sixteen is refl (say_own (fed g seat bytes) (fed_up g session (given session) bytes p.kept.journal seat (was.each session is))) say_others
+        each_with p reads session (fed g seat bytes) after_say turned was.sixteen is refl (say_own (fed g seat bytes) (fed_up g session (given session) bytes (turned session) p.kept.journal seat is_open (was.each session is))) say_others
 
-    say_holds : Holds g (say g p line session bytes) after_say
+    say_holds : Holds g (say g p line session bytes) after_say turned
     say_holds = record {
-      kept = cond_both (is_closed (seat_at p session).reader) closed reads (λ q. IsKept g q.kept) (λ at_end. was.kept) (λ more. was.kept);
+      kept = cond_both (seat_at p session).closed closed reads (λ q. IsKept g q.kept) (λ is_closed. was.kept) (λ more. was.kept);
       sixteen = step_seats g p line (Say session bytes) was.sixteen;
       numbered = step_numbered g p line (Say session bytes) was.sixteen is was.numbered;
       each =
-          cond_both (is_closed (seat_at p session).reader) closed reads (λ q. (other : ℕ) → IsSession other → IsUpTo g other (after_say other) q.kept.journal (seat_at q other)) closed_holds
-          (λ more. reads_holds);
+          cond_both (seat_at p session).closed closed reads (λ q. (other : ℕ) → IsSession other → IsUpTo g other (after_say other) (turned other) q.kept.journal (seat_at q other)) closed_holds
+          reads_holds;
     }
 
   -- a session's turn
-  module _ (p : Play) (line session : ℕ) (given : ℕ → List ℕ) (was : Holds g p given) (is : IsSession session) where
+  module _ (p : Play) (line session : ℕ) (given turned : ℕ → List ℕ) (was : Holds g p given turned) (is : IsSession session) where
     abbrev before : Kept × Seat
     before = (p.kept, record (seat_at p session) { waiting = [] })
 
     abbrev after : Kept × Seat
     after = act_all g session before (seat_at p session).waiting
+
+    -- what each session was given in front of its last turn
+    abbrev after_turn : ℕ → List ℕ
+    after_turn other = if is_turn other (Run session) then given other else turned other
 
     -- its commands are done
     run_serves : Serves g session after ((was.each session is).done ++ (seat_at p session).waiting)
@@ -140,65 +148,81 @@ module _ (g : Geometry) where
         act_all_serves g session before up.done (seat_at p session).waiting (record { kept = was.kept; new = was.numbered session is; served = up.served })
 
     -- it is up to its bytes, and nothing waits
-    run_own : IsUpTo g session (given session) after.0.journal after.1
+    run_own : IsUpTo g session (given session) (after_turn session) after.0.journal (behind_turn after.1)
     run_own =
         let up = was.each session is in
+        let yes : nat_eq session session ≡ true = grind (arith, nat_tests) in
+        let turns : after_turn session ≡ given session = ap (λ b. if b then given session else turned session) yes in
         let done = up.done ++ (seat_at p session).waiting in
         let none : done ++ after.1.waiting ≡ done = ap (λ (l : List Command). done ++ l) (act_all_waiting g session before (seat_at p session).waiting) ∙ append-nil done in
         record {
           done = done;
+          done_are = up.read.commands_are ∙ ap (λ (l : List ℕ). (commands_of g.item_max l).0) (sym turns);
           read = record { commands_are = none ∙ up.read.commands_are; reader_is = act_all_reader g session before (seat_at p session).waiting ∙ up.read.reader_is };
           served = run_serves.served;
+          ended = λ closed. closed;
         }
 
     -- and each other is where it was
-    run_others : (other : ℕ) → IsSession other → other ≢ session → IsUpTo g other (given other) after.0.journal (seat_at p other)
+    run_others : (other : ℕ) → IsSession other → other ≢ session → IsUpTo g other (given other) (after_turn other) after.0.journal (seat_at p other)
     run_others other is_other differ =
         let up = was.each other is_other in
+        let no : nat_eq session other ≡ false = grind (arith, nat_tests, differ) in
+        let turns : after_turn other ≡ turned other = ap (λ b. if b then given other else turned other) no in
         let seat = seat_at p other in
         record {
           done = up.done;
+          done_are = up.done_are ∙ ap (λ (l : List ℕ). (commands_of g.item_max l).0) (sym turns);
           read = up.read;
           served = act_all_serves_other g session other before (seat_at p session).waiting up.done seat.last seat.said (λ same. differ (sym same)) up.served;
+          ended = up.ended;
         }
 
-    run_holds : Holds g (run g p session) (λ other. given other ++ [])
+    run_holds : Holds g (run g p session) (λ other. given other ++ []) after_turn
     run_holds = record {
       kept = run_serves.kept;
       sixteen = step_seats g p line (Run session) was.sixteen;
       numbered = step_numbered g p line (Run session) was.sixteen is was.numbered;
-      each = λ other is_other. given_none g other (given other) [] after.0.journal (seat_at (run g p session) other) refl
-          (each_with p (run g p session) session after.1 given was.sixteen is refl run_own run_others other is_other);
+      each = λ other is_other. given_none g other (given other) [] (after_turn other) after.0.journal (seat_at (run g p session) other) refl
+          (each_with p (run g p session) session (behind_turn after.1) given after_turn was.sixteen is refl run_own run_others other is_other);
     }
 
   -- each step keeps all of it
-  step_holds : (p : Play) (line : ℕ) (step : Step) (given : ℕ → List ℕ) → IsSeated step → Holds g p given → Holds g (play_step g p line step) (λ session. given session ++ bytes_for session step)
-  step_holds p line (Clock reading) given seated was = clock_holds p line reading given was
-  step_holds p line (Say session bytes) given seated was = say_holds p line session bytes given was seated
-  step_holds p line (Run session) given seated was = run_holds p line session given was seated
+  step_holds : (p : Play) (line : ℕ) (step : Step) (given turned : ℕ → List ℕ) → IsSeated step → Holds g p given turned
+      → Holds g (play_step g p line step) (λ session. given session ++ bytes_for session step) (λ session. if is_turn session step then given session else turned session)
+  step_holds p line (Clock reading) given turned seated was = clock_holds p line reading given turned was
+  step_holds p line (Say session bytes) given turned seated was = say_holds p line session bytes given turned was seated
+  step_holds p line (Run session) given turned seated was = run_holds p line session given turned was seated
 
   -- and so do all steps
-  steps_hold : (p : Play) (line : ℕ) (steps : List Step) (given : ℕ → List ℕ) → AreSeated steps → Holds g p given → Holds g (play_from g p line steps) (λ session. given session ++ bytes_to session steps)
-  steps_hold p line [] given seated was = subst (Holds g p) (λ j session. sym (append-nil (given session)) j) was
-  steps_hold p line (step ∷ steps) given seated was =
-      let after = steps_hold (play_step g p line step) (line + 1) steps (λ session. given session ++ bytes_for session step) seated.1 (step_holds p line step given seated.0 was) in
-      subst (Holds g (play_from g p line (step ∷ steps))) (λ j session. append_assoc (given session) (bytes_for session step) (bytes_to session steps) j) after
+  steps_hold : (p : Play) (line : ℕ) (steps : List Step) (given turned : ℕ → List ℕ) → AreSeated steps → Holds g p given turned
+      → Holds g (play_from g p line steps) (λ session. given session ++ bytes_to session steps) (λ session. turned_behind session (given session) (turned session) steps)
+  steps_hold p line [] given turned seated was = subst (λ (given : ℕ → List ℕ). Holds g p given turned) (λ j session. sym (append-nil (given session)) j) was
+  steps_hold p line (step ∷ steps) given turned seated was =
+      let more = λ (session : ℕ). if is_turn session step then given session else turned session in
+      let after = steps_hold (play_step g p line step) (line + 1) steps (λ session. given session ++ bytes_for session step) more seated.1 (step_holds p line step given turned seated.0 was) in
+      let behind = λ (session : ℕ). turned_behind session (given session) (turned session) (step ∷ steps) in
+      subst (λ (all : ℕ → List ℕ). Holds g (play_from g p line (step ∷ steps)) all behind) (λ j session. append_assoc (given session) (bytes_for session step) (bytes_to session steps) j) after
 
   -- before the first step
-  first_holds : Holds g first_play (λ session. [])
+  first_holds : Holds g first_play (λ session. []) (λ session. [])
   first_holds = record {
     kept = record { run = record { legal = tt; same = refl }; here = first_here };
     sixteen = refl;
     numbered = first_numbered;
-    each = λ session is. subst (IsUpTo g session [] []) (sym (nobody 16 (session - 1))) (first_up g session);
+    each = λ session is. subst (IsUpTo g session [] [] []) (sym (nobody 16 (session - 1))) (first_up g session);
   }
 
   -- a script whose steps have a session each
   is_right : (steps : List Step) → AreSeated steps → IsRight g steps
   is_right steps seated =
-      let all = steps_hold first_play 2 steps (λ session. []) seated first_holds in record {
+      let all = steps_hold first_play 2 steps (λ session. []) (λ session. []) seated first_holds in record {
         legal = all.kept.run.legal;
-        answered = λ session is. is_answered g session (bytes_to session steps) (play_of g steps).kept.journal (seat_at (play_of g steps) session) (all.each session is);
+        answered = λ session is.
+            let journal = (play_of g steps).kept.journal in
+            let seat = seat_at (play_of g steps) session in
+            is_answered g session (bytes_to session steps) (bytes_in_turns session steps) journal seat
+            (subst (λ (turns : List ℕ). IsUpTo g session (bytes_to session steps) turns journal seat) (turned_from_first session steps) (all.each session is));
       }
 
 -- the law

@@ -8,8 +8,8 @@ use Rattle.std.proofs.lemmas.Option.{slice_get-map, slice_get_read}
 use Rattle.flash_names.specs.declared.geometry.Geometry.{Geometry}
 use Rattle.flash_trace.specs.declared.command.Command.{Command}
 use Rattle.flash_trace.specs.declared.play.Seat as code
-use Rattle.flash_trace.specs.Commands.{Reader, is_closed}
-use Rattle.flash_trace.specs.Playing.{Seat, Kept, Play, act_all, seat_or_new, seat_at, with_seat, with_line, fed, say, run}
+use Rattle.flash_trace.specs.Commands.{Reader}
+use Rattle.flash_trace.specs.Playing.{Seat, Kept, Play, act_all, behind_turn, seat_or_new, seat_at, with_seat, with_line, fed, say, run}
 use Rattle.flash_trace.specs.Seats.{seat_of, AreSeats, TakesUpTo}
 
 -- what holds of each element holds of each after one was set
@@ -69,11 +69,11 @@ module _ (item_max : ℕ) (seats taken put : List (Option code.Seat)) (i : ℕ) 
 -- a turn of a session, put together
 module _ (g : Geometry) (p : Play) (number : ℕ) (seat : Seat) (is : seat ≡ seat_at p number) where
   pub ran : (commands : List Command) (first : Seat) (after : Kept × Seat) → first ≡ record seat { waiting = [] } → commands ≡ seat.waiting → after ≡ act_all g number (p.kept, first) commands
-      → with_seat (record p { kept = after.0 }) number after.1 ≡ run g p number
+      → with_seat (record p { kept = after.0 }) number (behind_turn after.1) ≡ run g p number
   ran commands first after begins all done =
       let turn = λ (s : Seat). act_all g number (p.kept, record s { waiting = [] }) s.waiting in
       let one : after ≡ turn seat = done ∙ ap (λ (f : Seat). act_all g number (p.kept, f) commands) begins ∙ ap (λ (l : List Command). act_all g number (p.kept, record seat { waiting = [] }) l) all in
-      ap (λ (a : Kept × Seat). with_seat (record p { kept = a.0 }) number a.1) (one ∙ ap turn is)
+      ap (λ (a : Kept × Seat). with_seat (record p { kept = a.0 }) number (behind_turn a.1)) (one ∙ ap turn is)
 
 -- what has happened so far, by its parts
 pub played_by : (kept : Kept) (printed printed2 : List ℕ) (seats seats2 : List (Option Seat)) → printed ≡ printed2 → seats ≡ seats2
@@ -100,15 +100,15 @@ module _ (g : Geometry) (p : Play) (line number : ℕ) (bytes : List ℕ) (seat 
   heard_if taken new = record p { printed = printed_if taken; seats = slice_set p.seats (number - 1) (Some new) }
 
   abbrev turn : Seat → Play
-  turn s = if is_closed s.reader then with_line (with_seat p number s) (codes "closed") line else with_seat p number (fed g s bytes)
+  turn s = if s.closed then with_line (with_seat p number s) (codes "closed") line else with_seat p number (fed g s bytes)
 
-  by_closed : (closed : Bool) → is_closed seat.reader ≡ closed → heard_if (not closed) (if not closed then fed g seat bytes else seat) ≡ turn seat
+  by_closed : (closed : Bool) → seat.closed ≡ closed → heard_if (not closed) (if not closed then fed g seat bytes else seat) ≡ turn seat
   by_closed true at = sym (ap (λ b. if b then with_line (with_seat p number seat) (codes "closed") line else with_seat p number (fed g seat bytes)) at)
   by_closed false at = sym (ap (λ b. if b then with_line (with_seat p number seat) (codes "closed") line else with_seat p number (fed g seat bytes)) at)
 
-  pub said_by : (taken : Bool) (new : Seat) → taken ≡ not (is_closed seat.reader) → new ≡ (if taken then fed g seat bytes else seat) → heard_if taken new ≡ say g p line number bytes
+  pub said_by : (taken : Bool) (new : Seat) → taken ≡ not seat.closed → new ≡ (if taken then fed g seat bytes else seat) → heard_if taken new ≡ say g p line number bytes
   said_by taken new was heard =
-      ap (heard_if taken) heard ∙ ap (λ b. heard_if b (if b then fed g seat bytes else seat)) was ∙ by_closed (is_closed seat.reader) refl ∙ ap turn is
+      ap (heard_if taken) heard ∙ ap (λ b. heard_if b (if b then fed g seat bytes else seat)) was ∙ by_closed seat.closed refl ∙ ap turn is
 
 -- a session by the parts that reading changes
 pub seat_read : (seat : Seat) (reader reader2 : Reader) (waiting waiting2 : List Command) → reader ≡ reader2 → waiting ≡ waiting2

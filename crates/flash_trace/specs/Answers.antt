@@ -1,6 +1,6 @@
 -- The replies to a session's commands, read off the journal.
-use Rattle.std.specs.Prelude.{◌≡◌, ℕ, ◌+◌, ◌-◌, ◌≤◌, Bool, true, ◌&&◌, nat_eq, List, [], ◌∷◌, ◌++◌, length, drop, take, slice_get, Option, None, Some, IsSome, if◌then◌else◌}
-use Rattle.std.specs.List.{concat, filter_map, AllByRecursion}
+use Rattle.std.specs.Prelude.{◌≡◌, ℕ, ◌+◌, ◌-◌, ◌≤◌, Bool, true, false, ◌&&◌, nat_eq, List, [], ◌∷◌, ◌++◌, length, slice_get, Option, None, Some, IsSome, IsTrue, if◌then◌else◌}
+use Rattle.std.specs.List.{concat, filter_map, list_any, AllByRecursion}
 use Rattle.std.specs.Option.{ForSome}
 use Rattle.flash_names.specs.declared.place.Id.{Id}
 use Rattle.flash_names.specs.declared.geometry.Geometry.{Geometry}
@@ -22,10 +22,10 @@ use Rattle.flash_machine.specs.Legal.{Legal}
 use Rattle.flash_machine.specs.Steps.{next}
 use Rattle.flash_trace.specs.declared.command.Command.{Command}
 use Rattle.flash_trace.specs.declared.command.Command.TheVariants.{Get, Store, Refused}
-use Rattle.flash_trace.specs.Commands.{commands_of}
+use Rattle.flash_trace.specs.Commands.{commands_of, has_ended}
 use Rattle.flash_trace.specs.Playing.{Seat, seat_at, play_of}
 use Rattle.flash_trace.specs.Replies.{step_text, plain_text}
-use Rattle.flash_trace.specs.Steps.{Step, Say, IsSession, AreSeated}
+use Rattle.flash_trace.specs.Steps.{Step, Say, Run, IsSession, AreSeated}
 
 abbrev pub same_id : Id → Id → Bool
 same_id a b = nat_eq a.pass b.pass && nat_eq a.seq b.seq
@@ -127,24 +127,36 @@ abbrev pub bytes_to : ℕ → List Step → List ℕ
 bytes_to session [] = []
 bytes_to session (step ∷ steps) = bytes_for session step ++ bytes_to session steps
 
--- the commands but for so many at the end
-abbrev pub all_but : ℕ → List Command → List Command
-all_but n commands = take (length commands - n) commands
+-- whether a step is a turn of the session
+abbrev pub is_turn : ℕ → Step → Bool
+is_turn session (Run other) = nat_eq other session
+is_turn session _ = false
 
--- What a session was answered, where it was given these bytes: its reader has read them all; the replies to the
--- commands that it has done, in order, none left out, are what it was answered; each of their steps has an entry in
--- the journal; and the journal has no other steps of it
-pub record IsAnswered (g : Geometry) (session : ℕ) (bytes : List ℕ) (journal : List Entry) (seat : Seat) : Type 0 where
+-- whether one of these steps is
+abbrev pub has_turn : ℕ → List Step → Bool
+has_turn session steps = list_any (is_turn session) steps
+
+-- the bytes that a script gives to a session in front of its last turn: those that have a turn behind them
+abbrev pub bytes_in_turns : ℕ → List Step → List ℕ
+bytes_in_turns session [] = []
+bytes_in_turns session (step ∷ steps) = (if has_turn session steps then bytes_for session step else []) ++ bytes_in_turns session steps
+
+-- What a session was answered, where it was given these bytes, and `turns` of them in front of its last turn: its
+-- reader has read them all; each command in `turns` is done, and those that the other bytes end wait behind them; the
+-- replies to the commands that are done, in order, none left out, are what it was answered; each of their steps has an
+-- entry in the journal; the journal has no other steps of it; and it is closed only where its bytes end it
+pub record IsAnswered (g : Geometry) (session : ℕ) (bytes turns : List ℕ) (journal : List Entry) (seat : Seat) : Type 0 where
   pub read : seat.reader ≡ (commands_of g.item_max bytes).1
-  pub waiting : seat.waiting ≡ drop (length (commands_of g.item_max bytes).0 - length seat.waiting) (commands_of g.item_max bytes).0
-  pub said : seat.said ≡ concat (answers g (all_but (length seat.waiting) (commands_of g.item_max bytes).0) session journal)
-  pub known : (seq : ℕ) → 1 ≤ seq → seq ≤ length (asks_of (all_but (length seat.waiting) (commands_of g.item_max bytes).0)) → IsKnown g session seq journal
-  pub keeps : Keeps (all_but (length seat.waiting) (commands_of g.item_max bytes).0) session journal
+  pub waiting : (commands_of g.item_max bytes).0 ≡ (commands_of g.item_max turns).0 ++ seat.waiting
+  pub said : seat.said ≡ concat (answers g (commands_of g.item_max turns).0 session journal)
+  pub known : (seq : ℕ) → 1 ≤ seq → seq ≤ length (asks_of (commands_of g.item_max turns).0) → IsKnown g session seq journal
+  pub keeps : Keeps (commands_of g.item_max turns).0 session journal
+  pub ended : IsTrue seat.closed → IsTrue (has_ended seat.reader)
 
 -- every script's journal is a run of the one-thread cache, and each of its sessions is answered
 pub record IsRight (g : Geometry) (steps : List Step) : Type 0 where
   pub legal : Legal g (play_of g steps).kept.journal
-  pub answered : (session : ℕ) → IsSession session → IsAnswered g session (bytes_to session steps) (play_of g steps).kept.journal (seat_at (play_of g steps) session)
+  pub answered : (session : ℕ) → IsSession session → IsAnswered g session (bytes_to session steps) (bytes_in_turns session steps) (play_of g steps).kept.journal (seat_at (play_of g steps) session)
 
 abbrev pub EveryPlayIsRight : Type 0
 EveryPlayIsRight = (g : Geometry) (steps : List Step) → AreSeated steps → IsRight g steps

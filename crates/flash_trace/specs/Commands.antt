@@ -18,7 +18,7 @@ pub data Reader : Type 0 where
   InBlock : SetLine → List ℕ → Reader
   Behind : SetLine → List ℕ → List ℕ → Reader
   Skipping : ℕ → Reader
-  Closed : Reader
+  Ended : Reader
 
 -- the commands that were read, and where the reader stands
 abbrev pub Read : Type 0
@@ -37,11 +37,11 @@ line_read lines.Unknown = (commands.Refused refusals.Unknown ∷ [], InLine [])
 -- a byte in a line: 65,536 of them without a line feed end the session
 abbrev pub in_line : ℕ → List ℕ → ℕ → Read
 in_line item_max line b =
-    if b == 10 then line_read (line_of item_max line) else ([], (if nat_lt (length line + 1) 65536 then InLine (line ++ b ∷ []) else Closed))
+    if b == 10 then line_read (line_of item_max line) else ([], (if nat_lt (length line + 1) 65536 then InLine (line ++ b ∷ []) else Ended))
 
 -- a byte in a skip: the line feed ends it
 abbrev pub in_skip : ℕ → ℕ → Reader
-in_skip skipped b = if b == 10 then InLine [] else if nat_lt (skipped + 1) 65536 then Skipping (skipped + 1) else Closed
+in_skip skipped b = if b == 10 then InLine [] else if nat_lt (skipped + 1) 65536 then Skipping (skipped + 1) else Ended
 
 -- the two bytes behind a bad block: the skip begins with them, and what stands behind its end is a line
 abbrev pub after_skip : ℕ → Reader → ℕ → Read
@@ -71,7 +71,7 @@ read_byte item_max (InLine line) b = in_line item_max line b
 read_byte item_max (InBlock line block) b = ([], (if nat_lt (length block + 1) line.size then InBlock line (block ++ b ∷ []) else Behind line (block ++ b ∷ []) []))
 read_byte item_max (Behind line block two) b = behind_byte item_max line block two b
 read_byte item_max (Skipping n) b = ([], in_skip n b)
-read_byte item_max Closed b = ([], Closed)
+read_byte item_max Ended b = ([], Ended)
 
 -- the commands of more bytes, from where the reader stands
 abbrev pub read_from : ℕ → Reader → List ℕ → Read
@@ -83,7 +83,7 @@ read_from item_max r (b ∷ bytes) =
 abbrev pub commands_of : ℕ → List ℕ → Read
 commands_of item_max bytes = read_from item_max (InLine []) bytes
 
--- whether the session has ended
-abbrev pub is_closed : Reader → Bool
-is_closed Closed = true
-is_closed _ = false
+-- whether the reader has met an end: nothing more is read
+abbrev pub has_ended : Reader → Bool
+has_ended Ended = true
+has_ended _ = false

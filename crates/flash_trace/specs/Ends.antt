@@ -93,12 +93,13 @@ Ends bytes journal untouched sink_rose device_rose prepared held held2 statuses.
 Ends bytes journal untouched sink_rose device_rose prepared held held2 statuses.Usage = ⊥
 Ends bytes journal untouched sink_rose device_rose prepared held held2 statuses.SourceFault = ⊥
 
--- all that there is was read, it is a script without a bad line, the device is prepared for it, and its whole output
--- was written
+-- all that there is was read, it is a script without a bad line, which makes a run of the one-thread cache in which
+-- each session is answered, the device is prepared for it, and its whole output was written
 pub record HasRun (with_journal : Option Bool) (prepared : Option Shape) (left left2 held held2 : Option (List ℕ)) : Type 0 where
   pub is : IsRead with_journal left left2
   pub at_end : IsAtEnd left2
   pub runs : Runs is.bytes is.journal prepared held held2
+  pub right : IsRight runs.script.geometry runs.script.steps
 
 -- this is the first bad line of what was read, and its line was written
 pub record HasRefused (fault : ScriptFault) (with_journal : Option Bool) (left left2 held held2 : Option (List ℕ)) : Type 0 where
@@ -112,15 +113,15 @@ pub record HasBegun (with_journal : Option Bool) (left left2 held held2 : Option
   pub begun : IsBegun (text_of is.bytes is.journal) held held2
 
 -- What the device was asked, where it was left untouched, or was prepared once, or failed as it was: nothing before the
--- script was read well, and then that alone
-abbrev pub IsAsked : Type 0 → Type 0 → Type 0 → Status → Type 0
-IsAsked untouched once failed statuses.Done = once
-IsAsked untouched once failed statuses.Usage = untouched
-IsAsked untouched once failed (statuses.Script fault) = untouched
-IsAsked untouched once failed statuses.SourceFault = untouched
-IsAsked untouched once failed statuses.SinkFault = untouched ⊎ once
-IsAsked untouched once failed statuses.PrepareFault = failed
-IsAsked untouched once failed statuses.NoMemory = untouched ⊎ once
+-- script was read and found good, and then that alone
+abbrev pub IsAsked : Type 0 → Type 0 → Type 0 → Type 0 → Status → Type 0
+IsAsked untouched once failed good statuses.Done = once × good
+IsAsked untouched once failed good statuses.Usage = untouched
+IsAsked untouched once failed good (statuses.Script fault) = untouched
+IsAsked untouched once failed good statuses.SourceFault = untouched
+IsAsked untouched once failed good statuses.SinkFault = untouched ⊎ (once × good)
+IsAsked untouched once failed good statuses.PrepareFault = failed × good
+IsAsked untouched once failed good statuses.NoMemory = untouched ⊎ (once × good)
 
 -- the script was read, and it has no bad line
 pub record HasReading (with_journal : Option Bool) (left left2 : Option (List ℕ)) : Type 0 where

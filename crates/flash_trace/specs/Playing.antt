@@ -1,5 +1,5 @@
 -- What a script does: its steps, one after the other, over plain lists.
-use Rattle.std.specs.Prelude.{ℕ, ◌+◌, ◌-◌, Bool, true, List, [], ◌∷◌, ◌++◌, Option, None, Some, codes, decimal, replicate, slice_get, slice_set, if◌then◌else◌}
+use Rattle.std.specs.Prelude.{ℕ, ◌+◌, ◌-◌, Bool, true, false, List, [], ◌∷◌, ◌++◌, Option, None, Some, codes, decimal, replicate, slice_get, slice_set, if◌then◌else◌}
 use Rattle.flash_names.specs.declared.geometry.Geometry.{Geometry}
 use Rattle.flash_entry.specs.declared.entry.Entry.{Entry}
 use Rattle.flash_entry.specs.declared.found.Found2.{Found2}
@@ -12,17 +12,18 @@ use Rattle.flash_core.specs.Store.{Desk, Call}
 use Rattle.flash_core.specs.Calls.{clock_call, store_call, look_call}
 use Rattle.flash_trace.specs.declared.command.Command.{Command}
 use Rattle.flash_trace.specs.declared.command.Command.TheVariants.{Get, Store, Refused}
-use Rattle.flash_trace.specs.Commands.{Reader, InLine, is_closed, read_from}
+use Rattle.flash_trace.specs.Commands.{Reader, InLine, has_ended, read_from}
 use Rattle.flash_trace.specs.Replies.{step_text, plain_text}
 use Rattle.flash_trace.specs.Steps.{Step, Clock, Say, Run}
 
 -- a session: where its reader stands, the commands that it has read and not done, the number of its last step,
--- and what it was answered
+-- what it was answered, and whether it is closed: a turn of it has met the end of its bytes
 pub record Seat : Type 0 where
   pub reader : Reader
   pub waiting : List Command
   pub last : ℕ
   pub said : List ℕ
+  pub closed : Bool
 
 -- the store with its journal
 pub record Kept : Type 0 where
@@ -37,7 +38,7 @@ pub record Play : Type 0 where
   pub seats : List (Option Seat)
 
 abbrev pub new_seat : Seat
-new_seat = record { reader = InLine []; waiting = []; last = 0; said = [] }
+new_seat = record { reader = InLine []; waiting = []; last = 0; said = []; closed = false }
 
 -- before the first step
 abbrev pub first_play : Play
@@ -103,13 +104,17 @@ fed g seat bytes = fed_by g.item_max seat bytes
 abbrev pub say : Geometry → Play → ℕ → ℕ → List ℕ → Play
 say g play line session bytes =
     let seat = seat_at play session in
-    if is_closed seat.reader then with_line (with_seat play session seat) (codes "closed") line else with_seat play session (fed g seat bytes)
+    if seat.closed then with_line (with_seat play session seat) (codes "closed") line else with_seat play session (fed g seat bytes)
 
--- the commands that the session has read
+-- the session behind its turn: it is closed where its reader has met an end
+abbrev pub behind_turn : Seat → Seat
+behind_turn seat = record seat { closed = has_ended seat.reader }
+
+-- a turn of the session: it does the commands that it has read
 abbrev pub run : Geometry → Play → ℕ → Play
 run g play session =
     let seat = seat_at play session in let after = act_all g session (play.kept, record seat { waiting = [] }) seat.waiting in
-    with_seat (record play { kept = after.0 }) session after.1
+    with_seat (record play { kept = after.0 }) session (behind_turn after.1)
 
 -- a reading of the clock: where the moment doesn't rise, a line is printed
 abbrev pub clock : Play → ℕ → ℕ → Play

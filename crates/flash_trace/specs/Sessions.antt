@@ -5,7 +5,7 @@ use Rattle.flash_trace.specs.declared.command.Command.{Command}
 use Rattle.flash_trace.specs.declared.session.Reading.{Reading}
 use Rattle.flash_trace.specs.declared.session.Reading.TheVariants as readings
 use Rattle.flash_trace.specs.declared.session.Session.{Session}
-use Rattle.flash_trace.specs.Commands.{Reader, InLine, InBlock, Behind, Skipping, Closed, Read, read_from}
+use Rattle.flash_trace.specs.Commands.{Reader, InLine, InBlock, Behind, Skipping, Ended, Read, read_from}
 
 -- where it stands, by the bytes of its line so far
 abbrev pub reader_at : List ℕ → Reading → Reader
@@ -13,7 +13,7 @@ reader_at part readings.Line = InLine part
 reader_at part (readings.Block block) = InBlock block.line block.bytes.items
 reader_at part (readings.Behind line block first) = Behind line block.items (option_to_list first)
 reader_at part (readings.Skip skipped) = Skipping skipped
-reader_at part readings.Closed = Closed
+reader_at part readings.Ended = Ended
 
 abbrev pub reader_of : Session → Reader
 reader_of s = reader_at s.part.items s.reading

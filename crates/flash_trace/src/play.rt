@@ -1,7 +1,6 @@
 ghost use Rattle.std.specs.Prelude.{◌≡◌, ◌-◌, not, [], ◌∷◌, ◌++◌, None, Some, decimal, length, replicate, slice_get, slice_set, if◌then◌else◌, IfOk, OnOk, IsTrue, is_some};
 ghost use Rattle.std.specs.Option.{ForSome, option_map};
-ghost use Rattle.flash_trace.specs.Commands.{is_closed};
-ghost use Rattle.flash_trace.specs.Playing.{Kept, clock, fed_by, seat_or_new, play_step, run, say};
+ghost use Rattle.flash_trace.specs.Playing.{Kept, behind_turn, clock, fed_by, seat_or_new, play_step, run, say};
 ghost use Rattle.flash_trace.specs.Scripts.{step_meant, IsWithin};
 ghost use Rattle.flash_trace.specs.Seats.{seat_of, seats_of, played, state_of, AreSeats, GoesOn, TakesUpTo};
 
@@ -13,28 +12,38 @@ use flash_names::Geometry;
 use itoa::Buffer;
 use std::alloc::{AllocError, Global};
 
-/// A session that a script made, with the number of its last step and what it was answered.
+/// A session that a script made, with the number of its last step, what it was answered, and whether it is closed.
 #[derive(Drop)]
 pub struct Seat {
     pub session: Session,
     pub last: u64,
     pub said: Vec<u8>,
+    /// A turn of the session has met the end of its bytes: it takes no more.
+    pub closed: bool,
 }
 
 impl Seat {
     // Gives the session these bytes and a line end, and answers whether it took them: one that is closed takes
     // nothing.
     fn hear(&mut self, said: &[u8]) -> Result<bool, AllocError>
-        ensures taken { IfOk result (λ taken. taken ≡ not (is_closed (seat_of self.old).reader)) }
+        ensures taken { IfOk result (λ taken. taken ≡ not self.old.closed) }
         ensures heard { IfOk result (λ taken. seat_of self.new ≡ (if taken then fed_by self.old.session.item_max (seat_of self.old) said.now else seat_of self.old)) }
         ensures size { OnOk result (self.new.session.item_max ≡ self.old.session.item_max) }
     {
-        if self.session.is_closed() {
+        if self.closed {
             return Ok(false);
         }
         self.session.feed(said)?;
         self.session.feed(b"\r\n")?;
         Ok(true)
+    }
+
+    // Ends a turn of the session: it is closed where its reader has met an end.
+    fn end_turn(&mut self)
+        ensures ended { seat_of self.new ≡ behind_turn (seat_of self.old) }
+        ensures size { self.new.session.item_max ≡ self.old.session.item_max }
+    {
+        self.closed = self.session.has_ended();
     }
 }
 
@@ -124,7 +133,7 @@ impl Play {
         self.print_unless(taken, b"closed", line)
     }
 
-    // Does the commands that the session has read.
+    // A turn of the session: does the commands that it has read.
     fn run<J: Journal>(
         &mut self,
         alloc: Global,
@@ -140,6 +149,7 @@ impl Play {
         let mut seat = self.take_seat(alloc, core.geometry().item_max, session);
         let commands = seat.session.take_commands();
         seat.do_all(alloc, core, session, &commands)?;
+        seat.end_turn();
         self.put_seat(session, seat);
         Ok(())
     }
@@ -192,6 +202,7 @@ fn made_or_new(alloc: Global, item_max: u32, made: Option<Seat>) -> Seat
             session: Session::new(alloc, item_max),
             last: 0,
             said: Vec::new(alloc),
+            closed: false,
         },
     }
 }

@@ -3,10 +3,10 @@ ghost use Rattle.flash_names.specs.Faults.{Rose, Counts};
 ghost use Rattle.flash_names.specs.Source.{IsAtEnd};
 ghost use Rattle.flash_names.specs.Told.{in_front};
 ghost use Rattle.flash_device.specs.Calls.{Called};
-ghost use Rattle.flash_trace.specs.Ends.{journal_wanted, Ends, IsWritten, IsBegun, HasRead, AtDone, AtUsage, AtScript, AtSourceFault, AtSinkFault, AtPrepareFault, AtNoMemory, HasRun, HasRefused, HasBegun, HasReading, IsAsked, IsComplete, EveryTraceIsRight};
+ghost use Rattle.flash_trace.specs.Ends.{journal_wanted, Ends, IsWritten, IsBegun, HasRead, AtDone, AtUsage, AtScript, AtSourceFault, AtSinkFault, AtPrepareFault, AtNoMemory, HasRun, HasRefused, HasBegun, HasReading, IsAsked, IsComplete};
 ghost use Rattle.flash_trace.specs.Output.{output};
 ghost use Rattle.flash_trace.specs.Playing.{play_from};
-ghost use Rattle.flash_trace.specs.Scripts.{AreWithin, script_of, script_meant, step_meant};
+ghost use Rattle.flash_trace.specs.Scripts.{AreWithin, fault_of, script_of, script_meant, step_meant};
 ghost use Rattle.flash_trace.specs.Seats.{GoesOn, state_of};
 
 use crate::fault::Status;
@@ -21,12 +21,12 @@ use flash_entry::Kept;
 use flash_names::{Blob, Sink, SinkFault, Source, SourceFault};
 use std::alloc::{AllocError, Global};
 
-// How many bytes a read asks for.
+// How many bytes a read of the source asks for.
 const PIECE: usize = 65_536;
 
-/// Reads a script, runs it over a store, and writes what it printed and answered. The words are `trace` or
-/// `trace --journal`, which writes the journal too; any other is a usage fault, and then nothing is read or
-/// written. The device is prepared where the script was read and has no bad line.
+/// Reads a script, runs it over a store, and writes what it printed and answered. The words behind the program's
+/// name are `trace` or `trace --journal`, which writes the journal too; any other is a usage fault, and then
+/// nothing is read or written. The device is prepared, once, where the script was read and has no bad line.
 pub fn run_trace<S: Source, K: Sink, D: Device>(
     alloc: Global,
     words: &[Blob],
@@ -42,11 +42,9 @@ pub fn run_trace<S: Source, K: Sink, D: Device>(
     ensures sink_fault { AtSinkFault result (Rose (K.faults sink.old) (K.faults sink.new)) }
     ensures begun { AtSinkFault result (HasBegun (journal_wanted words.now) (S.left source.old) (S.left source.new) (K.held sink.old) (K.held sink.new)) }
     ensures prepare_fault { AtPrepareFault result (Rose (D.faults device.old) (D.faults device.new) × (sink.new ≡ sink.old)) }
-    ensures good { AtPrepareFault result (HasReading (journal_wanted words.now) (S.left source.old) (S.left source.new)) }
     ensures no_memory { AtNoMemory result (sink.new ≡ sink.old) }
-    ensures device { IsAsked (device.new ≡ device.old) (Called false (D.calls device.old) (D.calls device.new)) (Called true (D.calls device.old) (D.calls device.new)) result }
+    ensures device { IsAsked (device.new ≡ device.old) (Called false (D.calls device.old) (D.calls device.new)) (Called true (D.calls device.old) (D.calls device.new)) (HasReading (journal_wanted words.now) (S.left source.old) (S.left source.new)) result }
     ensures complete { IsComplete (journal_wanted words.now) (S.left source.old) (Rose (S.faults source.old) (S.faults source.new)) (Rose (K.faults sink.old) (K.faults sink.new)) (Rose (D.faults device.old) (D.faults device.new)) result }
-    ensures right { EveryTraceIsRight }
 {
     every_trace_is_right();
     let Some(with_journal) = read_words(words) else {
@@ -135,7 +133,7 @@ fn trace<K: Sink, D: Device>(
     sink: &mut K,
     device: &mut D,
 ) -> Status
-    ensures device { IsAsked (device.new ≡ device.old) (Called false (D.calls device.old) (D.calls device.new)) (Called true (D.calls device.old) (D.calls device.new)) result }
+    ensures device { IsAsked (device.new ≡ device.old) (Called false (D.calls device.old) (D.calls device.new)) (Called true (D.calls device.old) (D.calls device.new)) (fault_of bytes.now ≡ None) result }
     ensures ends { Ends bytes.now with_journal (sink.new ≡ sink.old) (Rose (K.faults sink.old) (K.faults sink.new)) (Rose (D.faults device.old) (D.faults device.new)) (D.prepared device.new) (K.held sink.old) (K.held sink.new) result }
 {
     match read_script(alloc, bytes) {
@@ -163,8 +161,9 @@ fn run_script<K: Sink, D: Device>(
     device: &mut D,
 ) -> Status
     requires reading { script_of bytes.now ≡ Some (script_meant bytes.now script.now) }
+    requires head { script.now.head_end ≤ length bytes.now }
     requires within { AreWithin (length bytes.now) script.now.steps.items }
-    ensures device { IsAsked (device.new ≡ device.old) (Called false (D.calls device.old) (D.calls device.new)) (Called true (D.calls device.old) (D.calls device.new)) result }
+    ensures device { IsAsked (device.new ≡ device.old) (Called false (D.calls device.old) (D.calls device.new)) (Called true (D.calls device.old) (D.calls device.new)) (fault_of bytes.now ≡ None) result }
     ensures ends { Ends bytes.now with_journal (sink.new ≡ sink.old) (Rose (K.faults sink.old) (K.faults sink.new)) (Rose (D.faults device.old) (D.faults device.new)) (D.prepared device.new) (K.held sink.old) (K.held sink.new) result }
 {
     match device.prepare(script.geometry.pages, script.geometry.page_size) {
@@ -188,23 +187,22 @@ fn play_script(
     bytes: &[u8],
     script: &Script,
 ) -> Result<Vec<u8>, AllocError>
-    requires { AreWithin (length bytes.now) script.now.steps.items }
+    requires head { script.now.head_end ≤ length bytes.now }
+    requires within { AreWithin (length bytes.now) script.now.steps.items }
     ensures { IfOk result (λ out. out.items ≡ output (script_meant bytes.now script.now) with_journal) }
 {
-    let Ok(core) = Core::open(alloc, script.geometry, Kept::new(alloc)) else {
+    // The geometry was checked as the head was read, so only memory can be wanting.
+    let Ok(mut core) = Core::open(alloc, script.geometry, Kept::new(alloc)) else {
         return Err(AllocError);
     };
-    let mut core = core;
     let mut play = Play::new(alloc)?;
     play_steps(alloc, &mut core, &mut play, bytes, &script.steps)?;
-    let head = &bytes[..script.head_end.min(bytes.len())];
-    let journal = core.journal().entries();
     played_output(
         alloc,
         &play,
         with_journal,
-        head,
-        journal,
+        &bytes[..script.head_end],
+        core.journal().entries(),
         script.steps.len(),
     )
 }

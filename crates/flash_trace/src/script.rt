@@ -16,18 +16,23 @@ pub const MAX_BYTES: usize = 16_777_216;
 /// The most steps of a script.
 pub const MAX_STEPS: usize = 1_048_576;
 
-/// A script that was read: its geometry, where its first line ends, and its steps.
+/// A script that was read.
 #[derive(Drop)]
 pub struct Script {
+    /// The geometry of line 1.
     pub geometry: Geometry,
+    /// The place behind the line feed of line 1, in bytes.
     pub head_end: usize,
+    /// The steps of the lines behind it, in order.
     pub steps: Vec<Step>,
 }
 
 /// Why a script wasn't read.
 #[derive(Clone, Copy, Debug, PartialEq, Eq)]
 pub enum NotRead {
+    /// It has a bad line: this is the first.
     Fault(ScriptFault),
+    /// Memory for its steps ran out.
     NoMemory,
 }
 
@@ -42,14 +47,18 @@ impl From<AllocFailed<Step>> for NotRead {
 /// The word that a step's line begins with.
 #[derive(Clone, Copy)]
 pub enum StepWord {
+    /// `clock <n>`
     Clock,
+    /// `say <session> <rest>`
     Say,
+    /// `run <session>`
     Run,
 }
 
 /// Reads a script, or finds its first bad line.
 pub fn read_script(alloc: Global, bytes: &[u8]) -> Result<Script, NotRead>
     ensures read { IfOk result (λ script. script_of bytes.now ≡ Some (script_meant bytes.now script)) }
+    ensures head { IfOk result (λ script. script.head_end ≤ length bytes.now) }
     ensures within { IfOk result (λ script. AreWithin (length bytes.now) script.steps.items) }
     ensures seated { IfOk result (λ script. AreSeated (script_meant bytes.now script).steps) }
     ensures bad { IfErr result (IsFault (fault_of bytes.now)) }

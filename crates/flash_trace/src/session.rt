@@ -33,7 +33,7 @@ enum Reading {
     /// In what is skipped behind a bad data chunk: so many bytes so far, which are fewer than `LONGEST_LINE`.
     Skip(u16),
     /// The session has ended: nothing more is read.
-    Closed,
+    Ended,
 }
 
 /// A session of a script: what it was given, and the commands that it has read and not done.
@@ -52,7 +52,7 @@ impl Session {
     ghost use Rattle.std.specs.Prelude.{◌≡◌, ◌<◌, [], length, OnOk, IfOk};
     ghost use Rattle.std.specs.Option.{option_to_list};
     ghost use Rattle.flash_trace.specs.Lines.{line_of};
-    ghost use Rattle.flash_trace.specs.Commands.{InLine, InBlock, Behind, Skipping, is_closed, line_read, block_of, behind_block, in_skip, after_skip};
+    ghost use Rattle.flash_trace.specs.Commands.{InLine, InBlock, Behind, Skipping, has_ended, line_read, block_of, behind_block, in_skip, after_skip};
     ghost use Rattle.flash_trace.specs.Sessions.{reader_at, reader_of, waiting_of, Took, Reads, GoesOn};
 
     /// A session that was given nothing. Its values have at most `item_max` bytes.
@@ -71,10 +71,10 @@ impl Session {
     }
 
     /// Whether it has ended.
-    pub fn is_closed(&self) -> bool
-        ensures { result ≡ is_closed (reader_of self.now) }
+    pub fn has_ended(&self) -> bool
+        ensures { result ≡ has_ended (reader_of self.now) }
     {
-        matches!(self.reading, Reading::Closed)
+        matches!(self.reading, Reading::Ended)
     }
 
     /// The commands that were read since the last call, oldest first.
@@ -103,12 +103,12 @@ impl Session {
         requires { 0 < length bytes.now }
         ensures { IfOk result (λ rest. GoesOn self.old (reader_of self.old) bytes.now self.new rest.now) }
     {
-        match std::mem::replace(&mut self.reading, Reading::Closed) {
+        match std::mem::replace(&mut self.reading, Reading::Ended) {
             Reading::Line => self.feed_line(bytes),
             Reading::Block(block) => self.feed_block(block, bytes),
             Reading::Behind(line, block, first) => self.feed_behind(line, block, first, bytes),
             Reading::Skip(skipped) => Ok(self.feed_skip(skipped, bytes)),
-            Reading::Closed => Ok(&[]),
+            Reading::Ended => Ok(&[]),
         }
     }
 
@@ -119,7 +119,7 @@ impl Session {
     {
         let (front, behind) = cut_at_feed(bytes);
         if front.len() >= LONGEST_LINE - self.part.len() {
-            self.reading = Reading::Closed;
+            self.reading = Reading::Ended;
             return Ok(&[]);
         }
         self.part.extend_from_slice(front)?;
@@ -255,7 +255,7 @@ impl Session {
         self.begin_line();
         match (behind, skipped_with(skipped, front)) {
             (_, None) => {
-                self.reading = Reading::Closed;
+                self.reading = Reading::Ended;
                 &[]
             }
             (None, Some(skipped)) => {

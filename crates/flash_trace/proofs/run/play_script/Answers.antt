@@ -1,12 +1,11 @@
-use Rattle.std.proofs.Common.{◌≡◌, ℕ, List, map, take, Some, sym, ◌∙◌, ap}
-use Rattle.std.proofs.lemmas.List.{length-map, take_min}
+use Rattle.std.proofs.Common.{◌≡◌, List, map, Some, sym, ◌∙◌, ap}
+use Rattle.std.proofs.lemmas.List.{length-map}
 use Rattle.flash_names.specs.declared.geometry.Geometry.{Geometry}
 use Rattle.flash_core.specs.Store.{Store}
 use Rattle.flash_trace.specs.declared.step.Step.{Step}
 use Rattle.flash_trace.specs.Playing.{Play, play_from, play_of}
-use Rattle.flash_trace.specs.Output.{journal_if, played_text}
 use Rattle.flash_trace.specs.Scripts.{script_meant, step_meant}
-use Rattle.flash_trace.specs.Seats.{seats_of, state_of}
+use Rattle.flash_trace.specs.Seats.{state_of}
 use Rattle.flash_trace.proofs.Playback.{first_state, output_is, if_ok, told_entries}
 use Rattle.flash_trace.proofs.run.play_script.Goals as goal
 
@@ -27,9 +26,8 @@ returns c =
     ∙ ap (λ (g : Geometry). play_from g (state_of core play) 2 (map (step_meant bytes) c.deref.result.now)) same
     ∙ ap (λ (p : Play). play_from script.geometry p 2 (map (step_meant bytes) c.deref.result.now)) first
     ∙ ap (λ (l : List Step). play_of script.geometry (map (step_meant bytes) l)) c.deref.ensures.value in
-    let head : take c.min.result bytes ≡ take script.head_end bytes = ap (λ n. take n bytes) c.min.ensures ∙ take_min script.head_end bytes in
-    if_ok c.played_output.result _ _ (λ out. λ printed. output_is meant c.args.with_journal c.play_steps.new.core c.play_steps.new.play c.entries-journal.result.now c.len.result out.items
-    (printed ∙ ap (λ (h : List ℕ). played_text c.play_steps.new.play.printed.items (seats_of c.play_steps.new.play) (journal_if c.args.with_journal h c.entries-journal.result.now) c.len.result) head)
-    (c.entries-journal.ensures ∙ told_entries c.journal.result.now c.play_steps.new.core.told c.journal.ensures.told)
+    if_ok c.played_output.result _ _ (λ out. λ printed. output_is meant c.args.with_journal c.play_steps.new.core c.play_steps.new.play c.entries.result.now c.len.result out.items
+    printed
+    (c.entries.ensures ∙ told_entries c.journal.result.now c.play_steps.new.core.told c.journal.ensures.told)
     (c.len.ensures ∙ script.steps.ok.0 ∙ sym (length-map script.steps.items (step_meant bytes)))
     state) c.played_output.ensures

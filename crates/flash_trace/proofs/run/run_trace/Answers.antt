@@ -1,14 +1,14 @@
 use Rattle.std.proofs.Common.{◌≡◌, sym, ◌∙◌}
 use Rattle.flash_names.specs.Faults.{Rose}
 use Rattle.flash_trace.specs.Ends.{journal_wanted}
-use Rattle.flash_trace.proofs.Ending.{at_done, at_script, at_begun, at_good, read_bytes}
+use Rattle.flash_trace.proofs.Ending.{at_done, at_script, at_asked, at_begun, read_bytes}
 use Rattle.flash_trace.proofs.run.run_trace.Goals as goal
 
 pub returns-in-Ok-clause-output : goal.returns-in-Ok-clause-output
 returns-in-Ok-clause-output g c =
     at_done (journal_wanted c.args.words.now) (g.S.Source.left c.args.source.now) (g.S.Source.left c.read_all.new.source) (g.K.Sink.held c.args.sink.now) (g.K.Sink.held c.trace.new.sink)
     (c.trace.new.sink ≡ c.args.sink.now) (Rose (g.K.Sink.faults c.args.sink.now) (g.K.Sink.faults c.trace.new.sink)) (Rose (g.D.Device.faults c.args.device.now) (g.D.Device.faults c.trace.new.device)) (g.D.Device.prepared c.trace.new.device)
-    c.deref.result.now c.in-Some.with_journal (read_bytes _ _ _ _ c.deref.ensures.value c.in-Ok.ensures.read) (sym c.read_words.ensures ∙ c.in-Some.is) c.trace.result c.trace.ensures.ends
+    c.deref.result.now c.in-Some.with_journal (read_bytes _ _ _ _ c.deref.ensures.value c.in-Ok.ensures.read) (sym c.read_words.ensures ∙ c.in-Some.is) c.every_trace_is_right.ensures c.trace.result c.trace.ensures.ends
 
 pub returns-in-Ok-clause-script : goal.returns-in-Ok-clause-script
 returns-in-Ok-clause-script g c =
@@ -22,8 +22,9 @@ returns-in-Ok-clause-begun g c =
     (c.trace.new.sink ≡ c.args.sink.now) (Rose (g.K.Sink.faults c.args.sink.now) (g.K.Sink.faults c.trace.new.sink)) (Rose (g.D.Device.faults c.args.device.now) (g.D.Device.faults c.trace.new.device)) (g.D.Device.prepared c.trace.new.device)
     c.deref.result.now c.in-Some.with_journal (read_bytes _ _ _ _ c.deref.ensures.value c.in-Ok.ensures.read) (sym c.read_words.ensures ∙ c.in-Some.is) c.trace.result c.trace.ensures.ends
 
-pub returns-in-Ok-clause-good : goal.returns-in-Ok-clause-good
-returns-in-Ok-clause-good g c =
-    at_good (journal_wanted c.args.words.now) (g.S.Source.left c.args.source.now) (g.S.Source.left c.read_all.new.source) (g.K.Sink.held c.args.sink.now) (g.K.Sink.held c.trace.new.sink)
-    (c.trace.new.sink ≡ c.args.sink.now) (Rose (g.K.Sink.faults c.args.sink.now) (g.K.Sink.faults c.trace.new.sink)) (Rose (g.D.Device.faults c.args.device.now) (g.D.Device.faults c.trace.new.device)) (g.D.Device.prepared c.trace.new.device)
-    c.deref.result.now c.in-Some.with_journal (read_bytes _ _ _ _ c.deref.ensures.value c.in-Ok.ensures.read) (sym c.read_words.ensures ∙ c.in-Some.is) c.trace.result c.trace.ensures.ends
+pub returns-in-Ok-clause-device : goal.returns-in-Ok-clause-device
+returns-in-Ok-clause-device g c =
+    at_asked (journal_wanted c.args.words.now) (g.S.Source.left c.args.source.now) (g.S.Source.left c.read_all.new.source) (g.K.Sink.held c.args.sink.now) (g.K.Sink.held c.trace.new.sink)
+    (c.trace.new.device ≡ c.args.device.now) (Rose (g.K.Sink.faults c.args.sink.now) (g.K.Sink.faults c.trace.new.sink)) (Rose (g.D.Device.faults c.args.device.now) (g.D.Device.faults c.trace.new.device)) (g.D.Device.prepared c.trace.new.device)
+    c.deref.result.now c.in-Some.with_journal (read_bytes _ _ _ _ c.deref.ensures.value c.in-Ok.ensures.read) (sym c.read_words.ensures ∙ c.in-Some.is)
+    _ _ c.trace.result c.trace.ensures.device

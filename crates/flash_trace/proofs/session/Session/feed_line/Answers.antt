@@ -1,7 +1,7 @@
 use Rattle.std.proofs.Common.{◌≡◌, ℕ, ◌+◌, ◌≤◌, List, [], ◌∷◌, ◌++◌, Option, Bor, length, refl, sym, ◌∙◌, ap, length-append, arith}
 use Rattle.std.specs.Option.{option_map}
 use Rattle.flash_trace.specs.Lines.{line_of, with_feed}
-use Rattle.flash_trace.specs.Commands.{InLine, Closed, read_from, line_read}
+use Rattle.flash_trace.specs.Commands.{InLine, Ended, read_from, line_read}
 use Rattle.flash_trace.proofs.Feeding.{line_grows, line_ends}
 use Rattle.flash_trace.proofs.GoingOn.{goes_on, moves_on}
 use Rattle.flash_trace.proofs.session.Session.feed_line.Goals as goal
@@ -13,7 +13,7 @@ returns-then-front-len c =
     let behind = with_feed (option_map (λ (rest : Bor (List ℕ)). rest.now) cut.result.1) in
     let long : 65536 ≤ length old.part.items + length cut.result.0.now = omega (arith, old.part.ok.0) in
     let ends = line_ends old.item_max old.part.items cut.result.0.now behind cut.ensures.none (omega (arith, old.part.ok.0)) long in
-    moves_on old _ (InLine old.part.items) Closed c.args.bytes.now [] refl refl refl (ap (read_from old.item_max (InLine old.part.items)) cut.ensures.whole ∙ ends) c.requires
+    moves_on old _ (InLine old.part.items) Ended c.args.bytes.now [] refl refl refl (ap (read_from old.item_max (InLine old.part.items)) cut.ensures.whole ∙ ends) c.requires
 
 pub returns-in-None : goal.returns-in-None
 returns-in-None c =

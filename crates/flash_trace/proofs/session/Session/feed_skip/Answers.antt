@@ -2,7 +2,7 @@ use Rattle.std.proofs.Common.{◌≡◌, ℕ, ◌+◌, ◌≤◌, ◌<◌, Bool,
 use Rattle.std.specs.Option.{option_map}
 use Rattle.std.proofs.lemmas.Bool.Decides.{nat_tests}
 use Rattle.flash_trace.specs.Lines.{with_feed}
-use Rattle.flash_trace.specs.Commands.{InLine, Skipping, Closed, read_from}
+use Rattle.flash_trace.specs.Commands.{InLine, Skipping, Ended, read_from}
 use Rattle.flash_trace.proofs.Feeding.{skip_grows, skip_ends}
 use Rattle.flash_trace.proofs.GoingOn.{moves_on}
 use Rattle.flash_trace.proofs.session.Session.feed_skip.Goals as goal
@@ -22,7 +22,7 @@ returns-in_default-None c =
     let behind = with_feed (option_map (λ (rest : Bor (List ℕ)). rest.now) cut.result.1) in
     let many = too_many (c.args.skipped + length cut.result.0.now) 65536 _ refl (sym c.skipped_with.ensures ∙ c.in_default-None.is-1) in
     let ends = skip_ends old.item_max c.args.skipped cut.result.0.now behind cut.ensures.none (omega (arith, c.ranges.skipped.fits)) many in
-    moves_on old _ (Skipping c.args.skipped) Closed c.args.bytes.now [] c.begin_line.ensures.item_max (c.begin_line.ensures.waiting ∙ append-nil _) refl
+    moves_on old _ (Skipping c.args.skipped) Ended c.args.bytes.now [] c.begin_line.ensures.item_max (c.begin_line.ensures.waiting ∙ append-nil _) refl
     (ap (read_from old.item_max (Skipping c.args.skipped)) cut.ensures.whole ∙ ends) c.requires
 
 pub returns-in-None-Some : goal.returns-in-None-Some

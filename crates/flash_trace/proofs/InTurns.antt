@@ -1,0 +1,49 @@
+-- The bytes of a session that its turns answer, as the steps are played.
+use Rattle.std.proofs.Common.{◌≡◌, ℕ, Bool, true, false, List, [], ◌∷◌, ◌++◌, if◌then◌else◌, refl, ◌∙◌, ap, sym, append_assoc}
+use Rattle.std.specs.Prelude.{◌||◌}
+use Rattle.std.proofs.lemmas.List.{append-nil}
+use Rattle.flash_trace.specs.Answers.{bytes_for, bytes_in_turns, is_turn, has_turn}
+use Rattle.flash_trace.specs.Steps.{Step}
+
+-- the bytes in front of a session's last turn behind these steps, where it was given `given` in front of them, of
+-- which `turned` stood in front of its last turn
+abbrev pub turned_behind : ℕ → List ℕ → List ℕ → List Step → List ℕ
+turned_behind session given turned [] = turned
+turned_behind session given turned (step ∷ steps) =
+    turned_behind session (given ++ bytes_for session step) (if is_turn session step then given else turned) steps
+
+-- steps without a turn give no bytes to one
+behind_none : (first more : Bool) (bytes rest : List ℕ) → first || more ≡ false → (more ≡ false → rest ≡ []) → (if more then bytes else []) ++ rest ≡ []
+behind_none true more bytes rest none tail = absurd (cc none)
+behind_none false true bytes rest none tail = absurd (cc none)
+behind_none false false bytes rest none tail = tail refl
+
+-- the bytes in front of a turn, by whether the first step is one and whether one of the others is
+by_turns : (first more : Bool) (given turned bytes rest : List ℕ) → (more ≡ false → rest ≡ [])
+    → (if more then (given ++ bytes) ++ rest else (if first then given else turned)) ≡ (if first || more then given ++ ((if more then bytes else []) ++ rest) else turned)
+by_turns true true given turned bytes rest tail = append_assoc given bytes rest
+by_turns true false given turned bytes rest tail = sym (ap (λ (l : List ℕ). given ++ l) (tail refl) ∙ append-nil given)
+by_turns false true given turned bytes rest tail = append_assoc given bytes rest
+by_turns false false given turned bytes rest tail = refl
+
+-- and from the first step on
+from_first : (more : Bool) (rest : List ℕ) → (more ≡ false → rest ≡ []) → (if more then rest else []) ≡ rest
+from_first true rest tail = refl
+from_first false rest tail = sym (tail refl)
+
+module _ (session : ℕ) where
+  none_turned : (steps : List Step) → has_turn session steps ≡ false → bytes_in_turns session steps ≡ []
+  none_turned [] none = refl
+  none_turned (step ∷ steps) none =
+      behind_none (is_turn session step) (has_turn session steps) (bytes_for session step) (bytes_in_turns session steps) none (none_turned steps)
+
+  turned_is : (given turned : List ℕ) (steps : List Step) → turned_behind session given turned steps ≡ (if has_turn session steps then given ++ bytes_in_turns session steps else turned)
+  turned_is given turned [] = refl
+  turned_is given turned (step ∷ steps) =
+      let bytes = bytes_for session step in
+      turned_is (given ++ bytes) (if is_turn session step then given else turned) steps
+      ∙ by_turns (is_turn session step) (has_turn session steps) given turned bytes (bytes_in_turns session steps) (none_turned steps)
+
+  -- the steps of a whole script
+  pub turned_from_first : (steps : List Step) → turned_behind session [] [] steps ≡ bytes_in_turns session steps
+  turned_from_first steps = turned_is [] [] steps ∙ from_first (has_turn session steps) (bytes_in_turns session steps) (none_turned steps)
