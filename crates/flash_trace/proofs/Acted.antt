@@ -17,7 +17,7 @@ use Rattle.flash_core.proofs.Told.{Goes, run_goes_on}
 use Rattle.flash_core.proofs.Steps.{store_goes, look_goes}
 use Rattle.flash_trace.specs.declared.command.Command.{Command}
 use Rattle.flash_trace.specs.declared.command.Command.TheVariants.{Get, Store, Refused}
-use Rattle.flash_trace.specs.Playing.{Seat, Kept, after_call, act, act_all}
+use Rattle.flash_trace.specs.Playing.{Seat, StoreState, after_call, act, act_all}
 use Rattle.flash_trace.proofs.Asked.{store_asked, look_asked}
 use Rattle.flash_trace.proofs.InMemory.{AreHere, store_here, look_here, clock_here}
 use Rattle.flash_trace.proofs.Numbered.{number_of, plainly, act_new}
@@ -25,12 +25,12 @@ use Rattle.flash_trace.proofs.Recorded.{store_records, look_records}
 use Rattle.flash_trace.proofs.Served.{IsServed, served_other, served_plain, served_step}
 
 -- the journal is a run that makes the cache, and all its items are in memory
-pub record IsKept (g : Geometry) (k : Kept) : Type 0 where
+pub record IsKept (g : Geometry) (k : StoreState) : Type 0 where
   pub run : IsRun g k.cache k.journal
   pub here : AreHere k.cache.items
 
 -- a call that goes on from there
-kept_goes_on : {A : Type 0} (g : Geometry) (k : Kept) (call : Call A) → IsKept g k → Goes g k.journal k.cache call.entries call.cache → AreHere call.cache.items → IsKept g (after_call k call)
+kept_goes_on : {A : Type 0} (g : Geometry) (k : StoreState) (call : Call A) → IsKept g k → Goes g k.journal k.cache call.entries call.cache → AreHere call.cache.items → IsKept g (after_call k call)
 kept_goes_on g k call was goes here = record { run = run_goes_on g k.journal k.cache call.cache call.entries was.run goes; here = here }
 
 -- the moment rises where the test says so
@@ -44,19 +44,19 @@ clock_goes g h c desk moment within =
     (λ stays. record { legal = tt; makes = refl })
 
 -- and the store is kept
-pub clock_kept : (g : Geometry) (k : Kept) (reading : ℕ) → IsKept g k → IsKept g (after_call k (clock_call k.cache k.desk reading))
+pub clock_kept : (g : Geometry) (k : StoreState) (reading : ℕ) → IsKept g k → IsKept g (after_call k (clock_call k.cache k.desk reading))
 clock_kept g k reading was =
     kept_goes_on g k (clock_call k.cache k.desk reading) was (clock_goes g k.journal k.cache k.desk (min reading (2 ^ 62)) (omega arith)) (clock_here k.cache k.desk reading was.here)
 
 module _ (g : Geometry) (pass : ℕ) where
   -- the store is kept, the session's next number is new, and it was answered for the commands that it has done
-  pub record Serves (state : Kept × Seat) (done : List Command) : Type 0 where
+  pub record Serves (state : StoreState × Seat) (done : List Command) : Type 0 where
     pub kept : IsKept g state.0
     pub new : IsNew state.0.journal (number_of pass state.1)
     pub served : IsServed g pass state.0.journal done state.1.last state.1.said
 
   -- one command keeps the store
-  act_kept : (state : Kept × Seat) (command : Command) → IsNew state.0.journal (number_of pass state.1) → IsKept g state.0 → IsKept g (act g pass state command).0
+  act_kept : (state : StoreState × Seat) (command : Command) → IsNew state.0.journal (number_of pass state.1) → IsKept g state.0 → IsKept g (act g pass state command).0
   act_kept state (Get key) new was =
       let k = state.0 in
       let id = number_of pass state.1 in
@@ -68,7 +68,7 @@ module _ (g : Geometry) (pass : ℕ) where
   act_kept state (Refused refusal) new was = was
 
   -- the session was answered for one command more
-  act_served : (state : Kept × Seat) (done : List Command) (command : Command) → Serves state done
+  act_served : (state : StoreState × Seat) (done : List Command) (command : Command) → Serves state done
       → IsServed g pass (act g pass state command).0.journal (done ++ command ∷ []) (act g pass state command).1.last (act g pass state command).1.said
   act_served state done (Get key) was =
       let k = state.0 in
@@ -85,7 +85,7 @@ module _ (g : Geometry) (pass : ℕ) where
   act_served state done (Refused refusal) was = served_plain g pass state.0.journal done state.1.last state.1.said (Refused refusal) refl was.served
 
   -- one command more
-  pub act_serves : (state : Kept × Seat) (done : List Command) (command : Command) → Serves state done → Serves (act g pass state command) (done ++ command ∷ [])
+  pub act_serves : (state : StoreState × Seat) (done : List Command) (command : Command) → Serves state done → Serves (act g pass state command) (done ++ command ∷ [])
   act_serves state done command was = record {
     kept = act_kept state command was.new was.kept;
     new = act_new g pass state command was.new;
@@ -93,14 +93,14 @@ module _ (g : Geometry) (pass : ℕ) where
   }
 
   -- and all of them
-  pub act_all_serves : (state : Kept × Seat) (done commands : List Command) → Serves state done → Serves (act_all g pass state commands) (done ++ commands)
+  pub act_all_serves : (state : StoreState × Seat) (done commands : List Command) → Serves state done → Serves (act_all g pass state commands) (done ++ commands)
   act_all_serves state done [] was = subst (Serves state) (sym (append-nil done)) was
   act_all_serves state done (command ∷ more) was =
       subst (Serves (act_all g pass (act g pass state command) more)) (append_assoc done (command ∷ []) more)
       (act_all_serves (act g pass state command) (done ++ command ∷ []) more (act_serves state done command was))
 
   -- another session was answered as before
-  act_serves_other : (other : ℕ) (state : Kept × Seat) (command : Command) (done : List Command) (last : ℕ) (said : List ℕ) → pass ≢ other → IsServed g other state.0.journal done last said
+  act_serves_other : (other : ℕ) (state : StoreState × Seat) (command : Command) (done : List Command) (last : ℕ) (said : List ℕ) → pass ≢ other → IsServed g other state.0.journal done last said
       → IsServed g other (act g pass state command).0.journal done last said
   act_serves_other other state (Get key) done last said differ was =
       let k = state.0 in
@@ -113,29 +113,29 @@ module _ (g : Geometry) (pass : ℕ) where
   act_serves_other other state (Refused refusal) done last said differ was = was
 
   -- so it was behind all of them
-  pub act_all_serves_other : (other : ℕ) (state : Kept × Seat) (commands : List Command) (done : List Command) (last : ℕ) (said : List ℕ) → pass ≢ other → IsServed g other state.0.journal done last said
+  pub act_all_serves_other : (other : ℕ) (state : StoreState × Seat) (commands : List Command) (done : List Command) (last : ℕ) (said : List ℕ) → pass ≢ other → IsServed g other state.0.journal done last said
       → IsServed g other (act_all g pass state commands).0.journal done last said
   act_all_serves_other other state [] done last said differ was = was
   act_all_serves_other other state (command ∷ more) done last said differ was =
       act_all_serves_other other (act g pass state command) more done last said differ (act_serves_other other state command done last said differ was)
 
   -- a command leaves the session's reader
-  act_reader : (state : Kept × Seat) (command : Command) → (act g pass state command).1.reader ≡ state.1.reader
+  act_reader : (state : StoreState × Seat) (command : Command) → (act g pass state command).1.reader ≡ state.1.reader
   act_reader state (Get key) = refl
   act_reader state (Store put) = refl
   act_reader state (Refused refusal) = refl
 
   -- and the commands that wait
-  act_waiting : (state : Kept × Seat) (command : Command) → (act g pass state command).1.waiting ≡ state.1.waiting
+  act_waiting : (state : StoreState × Seat) (command : Command) → (act g pass state command).1.waiting ≡ state.1.waiting
   act_waiting state (Get key) = refl
   act_waiting state (Store put) = refl
   act_waiting state (Refused refusal) = refl
 
   -- so do all of them
-  pub act_all_reader : (state : Kept × Seat) (commands : List Command) → (act_all g pass state commands).1.reader ≡ state.1.reader
+  pub act_all_reader : (state : StoreState × Seat) (commands : List Command) → (act_all g pass state commands).1.reader ≡ state.1.reader
   act_all_reader state [] = refl
   act_all_reader state (command ∷ more) = act_all_reader (act g pass state command) more ∙ act_reader state command
 
-  pub act_all_waiting : (state : Kept × Seat) (commands : List Command) → (act_all g pass state commands).1.waiting ≡ state.1.waiting
+  pub act_all_waiting : (state : StoreState × Seat) (commands : List Command) → (act_all g pass state commands).1.waiting ≡ state.1.waiting
   act_all_waiting state [] = refl
   act_all_waiting state (command ∷ more) = act_all_waiting (act g pass state command) more ∙ act_waiting state command

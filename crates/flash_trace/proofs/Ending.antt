@@ -13,8 +13,8 @@ use Rattle.flash_trace.specs.declared.fault.Why.TheVariants.{TooLong}
 use Rattle.flash_trace.specs.Scripts.{Script, fault_of, script_of, script_of_lines, too_long, lines_fault, lines_of}
 
 -- bytes that are lent were read as they are
-pub read_bytes : (lent bytes : List ℕ) (left left2 : Option (List ℕ)) → lent ≡ bytes → HasRead bytes left left2 → HasRead lent left left2
-read_bytes lent bytes left left2 same read = subst (λ (l : List ℕ). HasRead l left left2) (sym same) read
+pub read_bytes : (lent bytes : List ℕ) (left left_after : Option (List ℕ)) → lent ≡ bytes → HasRead bytes left left_after → HasRead lent left left_after
+read_bytes lent bytes left left_after same read = subst (λ (l : List ℕ). HasRead l left left_after) (sym same) read
 
 -- a script that is longer than it may be has a bad line
 long_is_bad : (bytes : List ℕ) → 16777216 < length bytes → fault_of bytes ≡ None → ⊥
@@ -27,19 +27,19 @@ good_script : (found : Option ScriptFault) (lines : Option Script) (script : Scr
 good_script None lines script reading = refl
 good_script (Some fault) lines script reading = absurd (cc reading)
 
-module _ (with_journal : Option Bool) (left left2 held held2 : Option (List ℕ)) (untouched sink_rose device_rose : Type 0) (prepared : Option Shape)
-    (bytes : List ℕ) (journal : Bool) (read : HasRead bytes left left2) (wanted : with_journal ≡ Some journal) where
-  abbrev what : IsRead with_journal left left2
+module _ (with_journal : Option Bool) (left left_after held held_after : Option (List ℕ)) (untouched sink_rose device_rose : Type 0) (prepared : Option Shape)
+    (bytes : List ℕ) (journal : Bool) (read : HasRead bytes left left_after) (wanted : with_journal ≡ Some journal) where
+  abbrev what : IsRead with_journal left left_after
   what = record { bytes = bytes; read = read; journal = journal; wanted = wanted }
 
   -- a script without a bad line isn't too long, so all of it was read
-  at_end : (script : Script) → script_of bytes ≡ Some script → IsAtEnd left2
+  at_end : (script : Script) → script_of bytes ≡ Some script → IsAtEnd left_after
   at_end script reading = elim read.whole [
     | inl end ↦ end
     | inr long ↦ absurd (long_is_bad bytes long (good_script (fault_of bytes) (script_of_lines (lines_of bytes)) script reading))
   ]
 
-  pub at_done : EveryTraceIsRight → (status : Status) → Ends bytes journal untouched sink_rose device_rose prepared held held2 status → AtDone status (HasRun with_journal prepared left left2 held held2)
+  pub at_done : EveryTraceIsRight → (status : Status) → Ends bytes journal untouched sink_rose device_rose prepared held held_after status → AtDone status (HasRun with_journal prepared left left_after held held_after)
   at_done right statuses.Done ends = record { is = what; at_end = at_end ends.script ends.reading; runs = ends; right = right bytes ends.script ends.reading }
   at_done right statuses.Usage ends = tt
   at_done right (statuses.Script fault) ends = tt
@@ -48,7 +48,7 @@ module _ (with_journal : Option Bool) (left left2 held held2 : Option (List ℕ)
   at_done right statuses.PrepareFault ends = tt
   at_done right statuses.NoMemory ends = tt
 
-  pub at_script : (status : Status) → Ends bytes journal untouched sink_rose device_rose prepared held held2 status → AtScript status (λ fault. HasRefused fault with_journal left left2 held held2)
+  pub at_script : (status : Status) → Ends bytes journal untouched sink_rose device_rose prepared held held_after status → AtScript status (λ fault. HasRefused fault with_journal left left_after held held_after)
   at_script statuses.Done ends = tt
   at_script statuses.Usage ends = tt
   at_script (statuses.Script fault) ends = record { is = what; bad = ends.0; written = ends.1 }
@@ -57,7 +57,7 @@ module _ (with_journal : Option Bool) (left left2 held held2 : Option (List ℕ)
   at_script statuses.PrepareFault ends = tt
   at_script statuses.NoMemory ends = tt
 
-  pub at_begun : (status : Status) → Ends bytes journal untouched sink_rose device_rose prepared held held2 status → AtSinkFault status (HasBegun with_journal left left2 held held2)
+  pub at_begun : (status : Status) → Ends bytes journal untouched sink_rose device_rose prepared held held_after status → AtSinkFault status (HasBegun with_journal left left_after held held_after)
   at_begun statuses.Done ends = tt
   at_begun statuses.Usage ends = tt
   at_begun (statuses.Script fault) ends = tt
@@ -66,7 +66,7 @@ module _ (with_journal : Option Bool) (left left2 held held2 : Option (List ℕ)
   at_begun statuses.PrepareFault ends = tt
   at_begun statuses.NoMemory ends = tt
 
-  pub at_asked : (once failed : Type 0) (status : Status) → IsAsked untouched once failed (fault_of bytes ≡ None) status → IsAsked untouched once failed (HasReading with_journal left left2) status
+  pub at_asked : (once failed : Type 0) (status : Status) → IsAsked untouched once failed (fault_of bytes ≡ None) status → IsAsked untouched once failed (HasReading with_journal left left_after) status
   at_asked once failed statuses.Done asked = (asked.0, record { is = what; good = asked.1 })
   at_asked once failed statuses.Usage asked = asked
   at_asked once failed (statuses.Script fault) asked = asked
@@ -76,19 +76,19 @@ module _ (with_journal : Option Bool) (left left2 held held2 : Option (List ℕ)
   at_asked once failed statuses.NoMemory asked = elim asked [ inl untouched ↦ inl untouched | inr once ↦ inr (once.0, record { is = what; good = once.1 }) ]
 
 -- what a source that told all its bytes has left
-record Leaves (all bytes : List ℕ) (left2 : Option (List ℕ)) : Type 0 where
+record Leaves (all bytes : List ℕ) (left_after : Option (List ℕ)) : Type 0 where
   rest : List ℕ
   parts : all ≡ bytes ++ rest
-  tells : left2 ≡ Some rest
+  tells : left_after ≡ Some rest
 
-leaves : (all bytes : List ℕ) (left2 : Option (List ℕ)) → Some all ≡ in_front bytes left2 → Leaves all bytes left2
+leaves : (all bytes : List ℕ) (left_after : Option (List ℕ)) → Some all ≡ in_front bytes left_after → Leaves all bytes left_after
 leaves all bytes None taken = absurd (cc taken)
 leaves all bytes (Some rest) taken = record { rest = rest; parts = cc; tells = refl }
 
-module _ (with_journal : Option Bool) (left left2 held held2 : Option (List ℕ)) (untouched source_rose sink_rose device_rose : Type 0) (prepared : Option Shape) (bytes : List ℕ) (journal : Bool) (read : HasRead bytes left left2) where
+module _ (with_journal : Option Bool) (left left_after held held_after : Option (List ℕ)) (untouched source_rose sink_rose device_rose : Type 0) (prepared : Option Shape) (bytes : List ℕ) (journal : Bool) (read : HasRead bytes left left_after) where
   bad_script : (all : List ℕ) → left ≡ Some all → fault_of all ≡ None → (fault : ScriptFault) → fault_of bytes ≡ Some fault → ⊥
   bad_script all tells good fault bad =
-      let left = leaves all bytes left2 (sym tells ∙ read.taken) in
+      let left = leaves all bytes left_after (sym tells ∙ read.taken) in
       elim read.whole [
         | inl end ↦
             let none : left.rest ≡ [] = end left.rest left.tells in
@@ -98,7 +98,7 @@ module _ (with_journal : Option Bool) (left left2 held held2 : Option (List ℕ)
         | inr long ↦ long_is_bad all (omega (arith, long, ap length left.parts, length-append bytes left.rest)) good
       ]
 
-  pub is_complete : (status : Status) → Ends bytes journal untouched sink_rose device_rose prepared held held2 status → IsComplete with_journal left source_rose sink_rose device_rose status
+  pub is_complete : (status : Status) → Ends bytes journal untouched sink_rose device_rose prepared held held_after status → IsComplete with_journal left source_rose sink_rose device_rose status
   is_complete statuses.Done ends = λ all tells good j wanted source sink device. inl refl
   is_complete statuses.Usage ends = absurd ends
   is_complete (statuses.Script fault) ends = λ all tells good j wanted source sink device. absurd (bad_script all tells good fault ends.0)

@@ -8,8 +8,8 @@ use Rattle.flash_trace.specs.declared.play.Play as code_play
 use Rattle.flash_trace.specs.declared.step.Step as code_step
 use Rattle.flash_trace.specs.declared.step.Step.TheVariants as steps
 use Rattle.flash_trace.specs.Playing.{play_step}
-use Rattle.flash_trace.specs.Scripts.{step_meant}
-use Rattle.flash_trace.specs.Seats.{AreSeats, GoesOn, IsNumbered, seat_of, state_of}
+use Rattle.flash_trace.specs.CodeScripts.{step_meant}
+use Rattle.flash_trace.specs.Seats.{AreSeats, TraceGoesOn, IsNumbered, seat_of, state_of}
 use Rattle.flash_trace.specs.Steps.{IsSeated}
 use Rattle.flash_trace.proofs.Numbered.{step_numbered}
 
@@ -29,8 +29,8 @@ seated_meant script (steps.Say session first last) = record { some = session.som
 seated_meant script (steps.Run session) = record { some = session.some; within = session.within }
 
 module _ (s s2 : Store) (p p2 : code_play.Play) (script : List ℕ) (step : code_step.Step) (line : ℕ) where
-  pub goes_on : GoesOn s p → state_of s2 p2 ≡ play_step s.geometry (state_of s p) line (step_meant script step) → AreSeats s2.geometry.item_max p2.seats.items → IsTrue (is_some s2.told) → GoesOn s2 p2
-  goes_on going done seats tells =
+  pub trace_goes_on : TraceGoesOn s p → state_of s2 p2 ≡ play_step s.geometry (state_of s p) line (step_meant script step) → AreSeats s2.geometry.item_max p2.seats.items → IsTrue (is_some s2.told) → TraceGoesOn s2 p2
+  trace_goes_on going done seats tells =
       let sixteen : length (map (option_map seat_of) p.seats.items) ≡ 16 = length-map p.seats.items (option_map seat_of) ∙ going.seats.sixteen in
       record {
         tells = tells;

@@ -3,13 +3,13 @@ use Rattle.std.proofs.Common.{◌≡◌, ℕ, ◌<◌, List, [], ◌++◌, lengt
 use Rattle.flash_trace.specs.declared.command.Command.{Command}
 use Rattle.flash_trace.specs.declared.session.Session.{Session}
 use Rattle.flash_trace.specs.Commands.{Reader, Read, read_from}
-use Rattle.flash_trace.specs.Sessions.{reader_of, waiting_of, behind_these, Took, GoesOn}
+use Rattle.flash_trace.specs.Sessions.{reader_of, waiting_of, behind_these, Took, LeavesRest}
 use Rattle.flash_trace.proofs.Feeding.{behind_behind}
 
 -- this was read of the bytes in front of the rest
-pub goes_on : (from old new : Session) (r : Reader) (bytes rest : List ℕ) (read : Read) → from.item_max ≡ old.item_max → waiting_of from ≡ waiting_of old → Took from read new
-    → read_from old.item_max r bytes ≡ behind_these read.0 (read_from old.item_max read.1 rest) → length rest < length bytes → GoesOn old r bytes new rest
-goes_on from old new r bytes rest read size was took is shorter =
+pub leaves_rest : (from old new : Session) (r : Reader) (bytes rest : List ℕ) (read : Read) → from.item_max ≡ old.item_max → waiting_of from ≡ waiting_of old → Took from read new
+    → read_from old.item_max r bytes ≡ behind_these read.0 (read_from old.item_max read.1 rest) → length rest < length bytes → LeavesRest old r bytes new rest
+leaves_rest from old new r bytes rest read size was took is shorter =
     let m = old.item_max in
     record {
       item_max = took.item_max ∙ size;
@@ -23,7 +23,7 @@ goes_on from old new r bytes rest read size was took is shorter =
 
 -- no command was read of them
 pub moves_on : (old new : Session) (r next : Reader) (bytes rest : List ℕ) → new.item_max ≡ old.item_max → waiting_of new ≡ waiting_of old → reader_of new ≡ next
-    → read_from old.item_max r bytes ≡ read_from old.item_max next rest → length rest < length bytes → GoesOn old r bytes new rest
+    → read_from old.item_max r bytes ≡ read_from old.item_max next rest → length rest < length bytes → LeavesRest old r bytes new rest
 moves_on old new r next bytes rest size waits stands is shorter =
     let took : Took old ([], next) new = record { item_max = size; waiting = waits ∙ sym (append-nil (waiting_of old)); reader = stands } in
-    goes_on old old new r bytes rest ([], next) refl refl took is shorter
+    leaves_rest old old new r bytes rest ([], next) refl refl took is shorter

@@ -17,7 +17,7 @@ use Rattle.flash_core.proofs.News.{new_behind}
 use Rattle.flash_trace.specs.declared.command.Command.{Command}
 use Rattle.flash_trace.specs.declared.command.Command.TheVariants.{Get, Store, Refused}
 use Rattle.flash_trace.specs.Answers.{done_ask}
-use Rattle.flash_trace.specs.Playing.{Seat, Kept, Play, first_play, after_call, act, act_all, behind_turn, seat_at, with_seat, with_line, fed, run, clock, play_step}
+use Rattle.flash_trace.specs.Playing.{Seat, StoreState, Play, first_play, after_call, act, act_all, behind_turn, seat_at, with_seat, with_line, fed, run, clock, play_step}
 use Rattle.flash_trace.specs.Steps.{Step, Clock, Say, Run, IsSession, IsSeated}
 use Rattle.flash_trace.specs.Seats.{next_id, IsNumbered}
 use Rattle.flash_trace.proofs.Asked.{IsOf, AreOf, store_asked, look_asked}
@@ -70,7 +70,7 @@ plainly = record { value = true; renew = None }
 
 module _ (g : Geometry) (pass : ℕ) where
   -- behind a command its session's next number is new
-  pub act_new : (state : Kept × Seat) (command : Command) → IsNew state.0.journal (number_of pass state.1)
+  pub act_new : (state : StoreState × Seat) (command : Command) → IsNew state.0.journal (number_of pass state.1)
       → IsNew (act g pass state command).0.journal (number_of pass (act g pass state command).1)
   act_new state (Get key) new =
       next_new state.0.journal pass (state.1.last + 1) (asks.Look key plainly) _ (look_asked state.0.cache state.0.desk (number_of pass state.1) key plainly) new
@@ -78,20 +78,20 @@ module _ (g : Geometry) (pass : ℕ) where
       next_new state.0.journal pass (state.1.last + 1) (asks.Store put) _ (store_asked state.0.cache state.0.desk (number_of pass state.1) g put) new
   act_new state (Refused refusal) new = new
 
-  pub act_all_new : (state : Kept × Seat) (commands : List Command) → IsNew state.0.journal (number_of pass state.1)
+  pub act_all_new : (state : StoreState × Seat) (commands : List Command) → IsNew state.0.journal (number_of pass state.1)
       → IsNew (act_all g pass state commands).0.journal (number_of pass (act_all g pass state commands).1)
   act_all_new state [] new = new
   act_all_new state (command ∷ more) new = act_all_new (act g pass state command) more (act_new state command new)
 
   -- and another session's is where it was
-  act_other : (id : Id) (state : Kept × Seat) (command : Command) → id.pass ≢ pass → IsNew state.0.journal id → IsNew (act g pass state command).0.journal id
+  act_other : (id : Id) (state : StoreState × Seat) (command : Command) → id.pass ≢ pass → IsNew state.0.journal id → IsNew (act g pass state command).0.journal id
   act_other id state (Get key) other new =
       let own = number_of pass state.1 in other_new state.0.journal id own (asks.Look key plainly) _ other (look_asked state.0.cache state.0.desk own key plainly) new
   act_other id state (Store put) other new =
       let own = number_of pass state.1 in other_new state.0.journal id own (asks.Store put) _ other (store_asked state.0.cache state.0.desk own g put) new
   act_other id state (Refused refusal) other new = new
 
-  act_all_other : (id : Id) (state : Kept × Seat) (commands : List Command) → id.pass ≢ pass → IsNew state.0.journal id → IsNew (act_all g pass state commands).0.journal id
+  act_all_other : (id : Id) (state : StoreState × Seat) (commands : List Command) → id.pass ≢ pass → IsNew state.0.journal id → IsNew (act_all g pass state commands).0.journal id
   act_all_other id state [] other new = new
   act_all_other id state (command ∷ more) other new = act_all_other id (act g pass state command) more other (act_other id state command other new)
 
@@ -116,7 +116,7 @@ clock_numbered p line reading numbered session is =
     let id = next_id p session in
     let earlier : AllByRecursion (IsBefore id) call.entries =
     cond_both (nat_lt p.kept.cache.now _) _ _ (λ (c : Call _). AllByRecursion (IsBefore id) c.entries) (λ rises. (tt, tt)) (λ stays. tt) in
-    subst (λ (k : Kept). IsNew k.journal (next_id (clock p line reading) session)) (sym (kept_clock p line reading))
+    subst (λ (k : StoreState). IsNew k.journal (next_id (clock p line reading) session)) (sym (kept_clock p line reading))
     (subst (λ (s : Seat). IsNew (after_call p.kept call).journal (number_of session s)) (sym (seat_is p (clock p line reading) session (seats_clock p line reading)))
     (new_behind p.kept.journal id call.entries (numbered session is) earlier))
 
@@ -132,7 +132,7 @@ step_numbered g p line (Say session bytes) sixteen seated numbered =
     (λ is. numbered_with p reads session (fed g seat bytes) sixteen seated refl (numbered session seated) (λ id other new. new) numbered)
 step_numbered g p line (Run session) sixteen seated numbered =
     let seat = seat_at p session in
-    let state : Kept × Seat = (p.kept, record seat { waiting = [] }) in
+    let state : StoreState × Seat = (p.kept, record seat { waiting = [] }) in
     numbered_with p (run g p session) session (behind_turn (act_all g session state seat.waiting).1) sixteen seated refl (act_all_new g session state seat.waiting (numbered session seated))
     (λ id other new. act_all_other g session id state seat.waiting other new) numbered
 

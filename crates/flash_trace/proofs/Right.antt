@@ -12,7 +12,7 @@ use Rattle.flash_core.specs.Calls.{clock_call}
 use Rattle.flash_trace.specs.declared.command.Command.{Command}
 use Rattle.flash_trace.specs.Answers.{asks_of, bytes_for, bytes_in_turns, bytes_to, is_turn, IsRight, EveryPlayIsRight}
 use Rattle.flash_trace.specs.Commands.{commands_of}
-use Rattle.flash_trace.specs.Playing.{Seat, Kept, Play, first_play, after_call, act_all, seat_at, with_seat, with_line, fed, say, behind_turn, run, clock, play_step, play_from, play_of}
+use Rattle.flash_trace.specs.Playing.{Seat, StoreState, Play, first_play, after_call, act_all, seat_at, with_seat, with_line, fed, say, behind_turn, run, clock, play_step, play_from, play_of}
 use Rattle.flash_trace.specs.Seats.{IsNumbered}
 use Rattle.flash_trace.specs.Steps.{Step, Clock, Say, Run, IsSession, IsSeated, AreSeated}
 use Rattle.flash_trace.proofs.Acted.{IsKept, clock_kept, Serves, act_all_serves, act_all_serves_other, act_all_reader, act_all_waiting}
@@ -73,7 +73,7 @@ module _ (g : Geometry) where
         served = served_behind g session p.kept.journal call.entries up.done seat.last seat.said (clock_keeps session (asks_of up.done) p.kept.cache p.kept.desk reading) up.served;
         ended = up.ended;
       } in
-      subst (λ (k : Kept). IsUpTo g session (given session) (turned session) k.journal (seat_at (clock p line reading) session)) (sym (kept_clock p line reading))
+      subst (λ (k : StoreState). IsUpTo g session (given session) (turned session) k.journal (seat_at (clock p line reading) session)) (sym (kept_clock p line reading))
       (subst (IsUpTo g session (given session) (turned session) (after_call p.kept call).journal) there after)
 
   -- a reading of the clock
@@ -131,10 +131,10 @@ module _ (g : Geometry) where
 
   -- a session's turn
   module _ (p : Play) (line session : ℕ) (given turned : ℕ → List ℕ) (was : Holds g p given turned) (is : IsSession session) where
-    abbrev before : Kept × Seat
+    abbrev before : StoreState × Seat
     before = (p.kept, record (seat_at p session) { waiting = [] })
 
-    abbrev after : Kept × Seat
+    abbrev after : StoreState × Seat
     after = act_all g session before (seat_at p session).waiting
 
     -- what each session was given in front of its last turn

@@ -8,7 +8,9 @@ use Rattle.flash_trace.specs.declared.fault.Why.{Why}
 use Rattle.flash_trace.specs.declared.fault.Why.TheVariants.{Short}
 use Rattle.flash_trace.specs.declared.fault.ScriptFault.{ScriptFault}
 use Rattle.flash_trace.specs.Steps.{Step}
-use Rattle.flash_trace.specs.Scripts.{Lines, lines_of, in_first_line, step_of, first_fault, fault_or, steps_fault, fault_from, steps_of, too_long}
+use Rattle.flash_trace.proofs.Feeds.{cut_there}
+use Rattle.flash_trace.specs.CodeScripts.{first_fault}
+use Rattle.flash_trace.specs.Scripts.{Lines, lines_of, in_first_line, step_of, fault_or, steps_fault, fault_from, steps_of, too_long}
 
 -- the lines of bytes, by how they are cut at their first line feed
 abbrev pub lines_cut : List ℕ → Option (List ℕ × List ℕ) → Lines
@@ -36,30 +38,9 @@ pub lines-cut : (bytes : List ℕ) → lines_of bytes ≡ lines_cut bytes (cut_a
 lines-cut [] = refl
 lines-cut (b ∷ bytes) = by_test b bytes (b == 10) (cut_at 10 bytes) (lines_of bytes) (lines-cut bytes)
 
--- the bytes that were cut, by their parts
-abbrev joined : ℕ → List ℕ → Option (List ℕ × List ℕ) → List ℕ
-joined c bytes None = bytes
-joined c bytes (Some parts) = parts.0 ++ c ∷ parts.1
-
--- a byte in front of bytes that were cut
-joined_in_front : (c b : ℕ) (bytes : List ℕ) (cut : Option (List ℕ × List ℕ)) → joined c (b ∷ bytes) (in_front b cut) ≡ b ∷ joined c bytes cut
-joined_in_front c b bytes None = refl
-joined_in_front c b bytes (Some parts) = refl
-
--- the same, where the byte may be the one at which they are cut
-joined_more : (c b : ℕ) (bytes : List ℕ) (same : Bool) (cut : Option (List ℕ × List ℕ)) → (b == c) ≡ same → joined c bytes cut ≡ bytes
-    → joined c (b ∷ bytes) (if same then Some ([], bytes) else in_front b cut) ≡ b ∷ bytes
-joined_more c b bytes true cut test is = let e : b ≡ c = grind (arith, nat_tests) in cc
-joined_more c b bytes false cut test is = joined_in_front c b bytes cut ∙ ap (λ (l : List ℕ). b ∷ l) is
-
--- bytes that were cut, put together again
-joined-cut : (c : ℕ) (bytes : List ℕ) → joined c bytes (cut_at c bytes) ≡ bytes
-joined-cut c [] = refl
-joined-cut c (b ∷ bytes) = joined_more c b bytes (b == c) (cut_at c bytes) refl (joined-cut c bytes)
-
 -- bytes that are cut are their parts, with the byte between
 pub cut_joins : (c : ℕ) (bytes front behind : List ℕ) → Some (front, behind) ≡ cut_at c bytes → bytes ≡ front ++ c ∷ behind
-cut_joins c bytes front behind is = sym (ap (joined c bytes) is ∙ joined-cut c bytes)
+cut_joins c bytes front behind is = (cut_there c bytes front behind (sym is)).whole
 
 module _ (bytes : List ℕ) (start : ℕ) (text behind : List ℕ) (cut : Some (text, behind) ≡ cut_at 10 (drop start bytes)) where
   -- the first line from a place on, as the code takes it

@@ -9,7 +9,7 @@ use Rattle.flash_names.specs.declared.geometry.Geometry.{Geometry}
 use Rattle.flash_trace.specs.declared.command.Command.{Command}
 use Rattle.flash_trace.specs.declared.play.Seat as code
 use Rattle.flash_trace.specs.Commands.{Reader}
-use Rattle.flash_trace.specs.Playing.{Seat, Kept, Play, act_all, behind_turn, seat_or_new, seat_at, with_seat, with_line, fed, say, run}
+use Rattle.flash_trace.specs.Playing.{Seat, StoreState, Play, act_all, behind_turn, seat_or_new, seat_at, with_seat, with_line, fed, say, run}
 use Rattle.flash_trace.specs.Seats.{seat_of, AreSeats, TakesUpTo}
 
 -- what holds of each element holds of each after one was set
@@ -68,15 +68,15 @@ module _ (item_max : ℕ) (seats taken put : List (Option code.Seat)) (i : ℕ) 
 
 -- a turn of a session, put together
 module _ (g : Geometry) (p : Play) (number : ℕ) (seat : Seat) (is : seat ≡ seat_at p number) where
-  pub ran : (commands : List Command) (first : Seat) (after : Kept × Seat) → first ≡ record seat { waiting = [] } → commands ≡ seat.waiting → after ≡ act_all g number (p.kept, first) commands
+  pub ran : (commands : List Command) (first : Seat) (after : StoreState × Seat) → first ≡ record seat { waiting = [] } → commands ≡ seat.waiting → after ≡ act_all g number (p.kept, first) commands
       → with_seat (record p { kept = after.0 }) number (behind_turn after.1) ≡ run g p number
   ran commands first after begins all done =
       let turn = λ (s : Seat). act_all g number (p.kept, record s { waiting = [] }) s.waiting in
       let one : after ≡ turn seat = done ∙ ap (λ (f : Seat). act_all g number (p.kept, f) commands) begins ∙ ap (λ (l : List Command). act_all g number (p.kept, record seat { waiting = [] }) l) all in
-      ap (λ (a : Kept × Seat). with_seat (record p { kept = a.0 }) number (behind_turn a.1)) (one ∙ ap turn is)
+      ap (λ (a : StoreState × Seat). with_seat (record p { kept = a.0 }) number (behind_turn a.1)) (one ∙ ap turn is)
 
 -- what has happened so far, by its parts
-pub played_by : (kept : Kept) (printed printed2 : List ℕ) (seats seats2 : List (Option Seat)) → printed ≡ printed2 → seats ≡ seats2
+pub played_by : (kept : StoreState) (printed printed2 : List ℕ) (seats seats2 : List (Option Seat)) → printed ≡ printed2 → seats ≡ seats2
     → ◌≡◌ {A = Play} (record { kept = kept; printed = printed; seats = seats }) (record { kept = kept; printed = printed2; seats = seats2 })
 played_by kept printed printed2 seats seats2 one two =
     let by : List ℕ → List (Option Seat) → Play = λ l s. record { kept = kept; printed = l; seats = s } in

@@ -1,4 +1,6 @@
 pub mod Answers
+pub mod CodeScripts
+pub mod CommandLine
 pub mod Commands
 pub mod Ends
 pub mod Examples

@@ -26,14 +26,14 @@ pub record Seat : Type 0 where
   pub closed : Bool
 
 -- the store with its journal
-pub record Kept : Type 0 where
+pub record StoreState : Type 0 where
   pub journal : List Entry
   pub cache : Cache
   pub desk : Desk
 
 -- what has happened so far: the store, the printed lines, and the sessions from 1 to 16, as far as they are made
 pub record Play : Type 0 where
-  pub kept : Kept
+  pub kept : StoreState
   pub printed : List ℕ
   pub seats : List (Option Seat)
 
@@ -45,7 +45,7 @@ abbrev pub first_play : Play
 first_play = record { kept = record { journal = []; cache = first_cache; desk = record { hot = [] } }; printed = []; seats = replicate 16 None }
 
 -- the store after a call
-abbrev pub after_call : {A : Type 0} → Kept → Call A → Kept
+abbrev pub after_call : {A : Type 0} → StoreState → Call A → StoreState
 after_call kept call = record { journal = kept.journal ++ call.entries; cache = call.cache; desk = call.desk }
 
 -- what a session is told of a lookup
@@ -59,7 +59,7 @@ abbrev pub replied : Seat → ℕ → List ℕ → Seat
 replied seat last text = record seat { last = last; said = seat.said ++ text }
 
 -- one command of a session
-abbrev pub act : Geometry → ℕ → Kept × Seat → Command → Kept × Seat
+abbrev pub act : Geometry → ℕ → StoreState × Seat → Command → StoreState × Seat
 act g pass state (Get key) =
     let call = look_call state.0.cache state.0.desk (record { pass = pass; seq = state.1.last + 1 }) key (record { value = true; renew = None }) in
     (after_call state.0 call, replied state.1 (state.1.last + 1) (step_text (Get key) (told.Found (outcome_of call.answer))))
@@ -69,7 +69,7 @@ act g pass state (Store put) =
 act g pass state (Refused refusal) = (state.0, replied state.1 state.1.last (plain_text (Refused refusal)))
 
 -- commands of a session, in order
-abbrev pub act_all : Geometry → ℕ → Kept × Seat → List Command → Kept × Seat
+abbrev pub act_all : Geometry → ℕ → StoreState × Seat → List Command → StoreState × Seat
 act_all g pass state [] = state
 act_all g pass state (command ∷ more) = act_all g pass (act g pass state command) more
 

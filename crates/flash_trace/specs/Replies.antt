@@ -37,7 +37,8 @@ found_block key _ = []
 abbrev pub found_text : List ℕ → Found2 → List ℕ
 found_text key outcome = found_block key outcome ++ reply_line (codes "END")
 
--- the reply to a step of a command, by its outcome; the last step of a lookup carries its end
+-- the reply to a step of a command, by its outcome; the last step of a lookup carries its end. A step without memory
+-- has a text too, which no session of a trace is given, since the trace ends then.
 abbrev pub step_text : Command → Told → List ℕ
 step_text (Get key) (told.Found outcome) = found_text key outcome
 step_text (Store put) (told.Stored answer) = stored_line answer

@@ -8,7 +8,7 @@ use Rattle.flash_machine.specs.Legal.{IsNew}
 use Rattle.flash_core.specs.Store.{Store}
 use Rattle.flash_trace.specs.declared.play.Seat as code
 use Rattle.flash_trace.specs.declared.play.Play as code_play
-use Rattle.flash_trace.specs.Playing.{Seat, Kept, Play, seat_at}
+use Rattle.flash_trace.specs.Playing.{Seat, StoreState, Play, seat_at}
 use Rattle.flash_trace.specs.Sessions.{reader_of, waiting_of}
 use Rattle.flash_trace.specs.Steps.{IsSession}
 
@@ -18,7 +18,7 @@ entries_of None = []
 entries_of (Some entries) = entries
 
 -- a store
-abbrev pub kept_of : Store → Kept
+abbrev pub kept_of : Store → StoreState
 kept_of s = record { journal = entries_of s.told; cache = s.cache; desk = s.desk }
 
 -- a session
@@ -30,7 +30,7 @@ abbrev pub seats_of : code_play.Play → List (Option Seat)
 seats_of p = map (option_map seat_of) p.seats.items
 
 -- what has happened so far, beside a store
-abbrev pub played : Kept → code_play.Play → Play
+abbrev pub played : StoreState → code_play.Play → Play
 played kept p = record { kept = kept; printed = p.printed.items; seats = seats_of p }
 
 -- all that has happened so far
@@ -56,7 +56,7 @@ pub record AreSeats (item_max : ℕ) (seats : List (Option code.Seat)) : Type 0 
 
 -- a trace that goes on: the journal tells its entries, the sessions are those of the store, and no session's next
 -- number was given
-pub record GoesOn (s : Store) (p : code_play.Play) : Type 0 where
+pub record TraceGoesOn (s : Store) (p : code_play.Play) : Type 0 where
   pub tells : IsTrue (is_some s.told)
   pub seats : AreSeats s.geometry.item_max p.seats.items
   pub numbered : IsNumbered (state_of s p)

@@ -6,14 +6,17 @@ use flash_names::Key;
 pub enum Refusal {
     /// An unknown command, or one whose words aren't as they must be.
     Unknown,
-    /// Another two bytes than a line end stand behind a block of data.
+    /// The two bytes behind a block of data aren't `\r\n`.
     BadChunk,
 }
 
 /// A command of a session, read whole.
 #[derive(Drop)]
 pub enum Command {
+    /// Looks this key up.
     Get(Key),
+    /// Stores what it says.
     Store(Put),
+    /// Nothing is done: the session is answered why.
     Refused(Refusal),
 }

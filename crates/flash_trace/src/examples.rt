@@ -1,7 +1,8 @@
 // The definitions on a worked example. The function has no body: its contract says what they make of it.
 ghost use Rattle.flash_trace.specs.Examples.{ReadsBoth, SkipsBadChunk, AnswersHit};
 
-/// A session that stores a value and gets it is read as these two commands, and a hit is answered so.
+/// The bytes of a `set` and a `get` are read as these two commands; a block with other bytes behind it is refused,
+/// and the rest of that line skipped; the reply to a hit is its `VALUE` line, its bytes and `END`.
 pub fn worked_example()
     ensures reads { ReadsBoth }
     ensures skips { SkipsBadChunk }

@@ -1,11 +1,11 @@
 /// Why a line of a script is bad.
 #[derive(Clone, Copy, Debug, PartialEq, Eq)]
 pub enum Why {
-    /// Its first word is unknown, or it has another count of words.
+    /// Its first word is unknown, or it has more or fewer words than that word asks for.
     BadWord,
-    /// One of its numbers can't be read, or is out of its range.
+    /// One of its numbers can't be read, or is out of its range; a session's is 1 to 16.
     BadNumber,
-    /// The number of the first rule that the geometry of line 1 breaks.
+    /// The first rule, from 1 to 10, that the geometry of line 1 breaks (`Geometry::check`).
     Geometry(u32),
     /// No line feed ends it.
     Short,
@@ -18,6 +18,7 @@ pub enum Why {
 pub struct ScriptFault {
     /// The line's number, counted from 1; 0 where the script is too long.
     pub line: u32,
+    /// Why it is bad: the first reason that applies.
     pub why: Why,
 }
 

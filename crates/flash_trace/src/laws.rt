@@ -13,7 +13,8 @@ pub fn each_line_is_read()
     ensures { IsReadByLines }
 {}
 
-/// Where a line is bad and those in front of it are good, that line is the fault.
+/// Where a step's line is bad, and line 1 and the steps' lines in front of it are good, that line is the fault, with
+/// its number.
 pub fn the_first_bad_line_is_the_fault()
     ensures { IsFirstBadLine }
 {}

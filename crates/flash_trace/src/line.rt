@@ -11,24 +11,30 @@ const MAX_DIGITS: usize = 18;
 /// A storage line: what a value is stored with, and how many bytes it has.
 #[derive(Drop)]
 pub struct SetLine {
+    /// The key, whose bytes are above 0x20 and not 0x7f.
     pub key: Key,
+    /// What the client keeps beside the value.
     pub flags: u32,
+    /// When the item expires: 0 never, below 0 at once, up to 2,592,000 in so many seconds, above at that Unix second
+    /// (memcached's doc/protocol.txt, "Expiration times").
     pub exptime: i64,
+    /// The value's length in bytes, at most the store's `item_max`.
     pub size: u32,
 }
 
 /// What a line of a session asks.
 #[derive(Drop)]
 pub enum Line {
+    /// A lookup of one key.
     Get(Key),
     /// A block of data follows.
     Set(SetLine),
-    /// Another line, or one whose words aren't as they must be.
+    /// Any other line.
     Unknown,
 }
 
-/// Reads a line without its line feed (memcached's doc/protocol.txt, "Storage commands" and "Retrieval
-/// command"). A value longer than an item may be is as an unknown line.
+/// Reads a line without its line feed (after memcached's doc/protocol.txt, "Storage commands" and "Retrieval
+/// command"). A length above `item_max` makes an unknown line.
 pub fn read_line(line: &[u8], item_max: u32) -> Line
     ensures { result ≡ line_of item_max line.now }
 {
@@ -106,7 +112,7 @@ fn leading_spaces(line: &[u8]) -> usize
     line.iter().position(|b| *b != b' ').unwrap_or(line.len())
 }
 
-// A key of a text line: no byte of it is a blank or a control character below it, or 0x7f.
+// A key of a text line: each byte is above 0x20, and none is 0x7f.
 fn read_key(word: &[u8]) -> Option<Key>
     ensures { result ≡ key_of word.now }
 {

@@ -1,11 +1,11 @@
 ghost use Rattle.std.specs.Prelude.{◌≡◌, ◌-◌, not, [], ◌∷◌, ◌++◌, None, Some, decimal, length, replicate, slice_get, slice_set, if◌then◌else◌, IfOk, OnOk, IsTrue, is_some};
 ghost use Rattle.std.specs.Option.{ForSome, option_map};
-ghost use Rattle.flash_trace.specs.Playing.{Kept, behind_turn, clock, fed_by, seat_or_new, play_step, run, say};
-ghost use Rattle.flash_trace.specs.Scripts.{step_meant, IsWithin};
-ghost use Rattle.flash_trace.specs.Seats.{seat_of, seats_of, played, state_of, AreSeats, GoesOn, TakesUpTo};
+ghost use Rattle.flash_trace.specs.Playing.{StoreState, behind_turn, clock, fed_by, seat_or_new, play_step, run, say};
+ghost use Rattle.flash_trace.specs.CodeScripts.{step_meant, IsWithin};
+ghost use Rattle.flash_trace.specs.Seats.{seat_of, seats_of, played, state_of, AreSeats, TraceGoesOn, TakesUpTo};
 
 use crate::session::Session;
-use crate::step::{SessionNumber, Step};
+use crate::step::{MAX_SESSIONS, SessionNumber, Step};
 use flash_core::Core;
 use flash_entry::Journal;
 use flash_names::Geometry;
@@ -15,8 +15,11 @@ use std::alloc::{AllocError, Global};
 /// A session that a script made, with the number of its last step, what it was answered, and whether it is closed.
 #[derive(Drop)]
 pub struct Seat {
+    /// What it has read, and the commands that wait.
     pub session: Session,
+    /// The number of its last step, 0 before the first.
     pub last: u64,
+    /// Its replies, one behind the other.
     pub said: Vec<u8>,
     /// A turn of the session has met the end of its bytes: it takes no more.
     pub closed: bool,
@@ -50,6 +53,7 @@ impl Seat {
 /// What a trace has printed and answered so far.
 #[derive(Drop)]
 pub struct Play {
+    /// The lines that steps printed.
     pub printed: Vec<u8>,
     /// The sessions from 1 to 16, as far as they are made.
     pub seats: Vec<Option<Seat>>,
@@ -62,7 +66,7 @@ impl Play {
         ensures seats { IfOk result (λ play. play.seats.items ≡ replicate 16 None) }
     {
         let mut seats = Vec::new(alloc);
-        'seats: for _ in 0..16u8 {
+        'seats: for _ in 0..MAX_SESSIONS {
             seats.push(None)?;
         }
         Ok(Play {
@@ -80,7 +84,7 @@ impl Play {
         step: Step,
         line: u64,
     ) -> Result<(), AllocError>
-        requires going { GoesOn core.old self.old }
+        requires going { TraceGoesOn core.old self.old }
         requires within { IsWithin (length script.now) step }
         ensures done { OnOk result (state_of core.new self.new ≡ play_step core.old.geometry (state_of core.old self.old) line (step_meant script.now step)) }
         ensures seats { OnOk result (AreSeats core.old.geometry.item_max self.new.seats.items) }
@@ -124,7 +128,7 @@ impl Play {
         line: u64,
     ) -> Result<(), AllocError>
         requires seats { AreSeats geometry.now.item_max self.old.seats.items }
-        ensures done { OnOk result ((kept : Kept) → played kept self.new ≡ say geometry.now (played kept self.old) line session.number said.now) }
+        ensures done { OnOk result ((kept : StoreState) → played kept self.new ≡ say geometry.now (played kept self.old) line session.number said.now) }
         ensures seats { OnOk result (AreSeats geometry.now.item_max self.new.seats.items) }
     {
         let mut seat = self.take_seat(alloc, geometry.item_max, session);
@@ -140,7 +144,7 @@ impl Play {
         core: &mut Core<J>,
         session: SessionNumber,
     ) -> Result<(), AllocError>
-        requires going { GoesOn core.old self.old }
+        requires going { TraceGoesOn core.old self.old }
         ensures done { OnOk result (state_of core.new self.new ≡ run core.old.geometry (state_of core.old self.old) session.number) }
         ensures seats { OnOk result (AreSeats core.old.geometry.item_max self.new.seats.items) }
         ensures tells { OnOk result (IsTrue (is_some core.new.told)) }

@@ -3,11 +3,13 @@ ghost use Rattle.flash_names.specs.Faults.{Rose, Counts};
 ghost use Rattle.flash_names.specs.Source.{IsAtEnd};
 ghost use Rattle.flash_names.specs.Told.{in_front};
 ghost use Rattle.flash_device.specs.Calls.{Called};
-ghost use Rattle.flash_trace.specs.Ends.{journal_wanted, Ends, IsWritten, IsBegun, HasRead, AtDone, AtUsage, AtScript, AtSourceFault, AtSinkFault, AtPrepareFault, AtNoMemory, HasRun, HasRefused, HasBegun, HasReading, IsAsked, IsComplete};
+ghost use Rattle.flash_trace.specs.CommandLine.{journal_wanted};
+ghost use Rattle.flash_trace.specs.Ends.{Ends, IsWritten, IsBegun, HasRead, AtDone, AtUsage, AtScript, AtSourceFault, AtSinkFault, AtPrepareFault, AtNoMemory, HasRun, HasRefused, HasBegun, HasReading, IsAsked, IsComplete};
 ghost use Rattle.flash_trace.specs.Output.{output};
 ghost use Rattle.flash_trace.specs.Playing.{play_from};
-ghost use Rattle.flash_trace.specs.Scripts.{AreWithin, fault_of, script_of, script_meant, step_meant};
-ghost use Rattle.flash_trace.specs.Seats.{GoesOn, state_of};
+ghost use Rattle.flash_trace.specs.CodeScripts.{AreWithin, script_meant, step_meant};
+ghost use Rattle.flash_trace.specs.Scripts.{fault_of, script_of};
+ghost use Rattle.flash_trace.specs.Seats.{TraceGoesOn, state_of};
 
 use crate::fault::Status;
 use crate::laws::every_trace_is_right;
@@ -215,7 +217,7 @@ fn play_steps(
     bytes: &[u8],
     steps: &[Step],
 ) -> Result<(), AllocError>
-    requires going { GoesOn core.old play.old }
+    requires going { TraceGoesOn core.old play.old }
     requires within { AreWithin (length bytes.now) steps.now }
     ensures done { OnOk result (state_of core.new play.new ≡ play_from core.old.geometry (state_of core.old play.old) 2 (map (step_meant bytes.now) steps.now)) }
     ensures tells { OnOk result (IsTrue (is_some core.new.told)) }

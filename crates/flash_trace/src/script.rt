@@ -2,7 +2,8 @@ ghost use Rattle.std.specs.Prelude.{◌≡◌, ◌-◌, ◌<◌, ◌≤◌, leng
 ghost use Rattle.flash_names.specs.Cut.{cut_at};
 ghost use Rattle.flash_trace.specs.declared.script.NotRead.TheVariants.{NoMemory};
 ghost use Rattle.flash_trace.specs.Steps.{AreSeated};
-ghost use Rattle.flash_trace.specs.Scripts.{why_of, session_of, step_word, step_of, first_fault, fault_from, steps_of, lines_of, script_of, fault_of, step_meant, script_meant, IsWithin, AreWithin, IsFault};
+ghost use Rattle.flash_trace.specs.CodeScripts.{first_fault, step_meant, script_meant, IsWithin, AreWithin, IsFault};
+ghost use Rattle.flash_trace.specs.Scripts.{why_of, session_of, step_word, step_of, fault_from, steps_of, lines_of, script_of, fault_of};
 
 use crate::fault::{ScriptFault, Why};
 use crate::step::{SessionNumber, Step};

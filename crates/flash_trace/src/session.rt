@@ -1,7 +1,7 @@
 ghost use Rattle.std.specs.Prelude.{◌≡◌, ◌+◌, ◌<◌, ◌++◌, ◌==◌, not, true, length, vec_len, nat_lt, Some, None, if◌then◌else◌};
 ghost use Rattle.std.specs.List.{list_all};
 ghost use Rattle.std.specs.Option.{option_map};
-ghost use Rattle.flash_trace.specs.declared.session.TheConstants.{LONGEST_LINE};
+ghost use Rattle.flash_trace.specs.declared.session.TheConstants.{LINE_LIMIT};
 ghost use Rattle.flash_trace.specs.Lines.{with_feed};
 
 use crate::command::{Command, Refusal};
@@ -10,8 +10,8 @@ use flash_entry::{Mode, Put};
 use flash_names::{Blob, cut_at_byte};
 use std::alloc::{AllocError, Global};
 
-/// So many bytes without a line feed in a line's place end a session.
-pub const LONGEST_LINE: usize = 65_536;
+/// So many bytes without a line feed, in a line's place or in what is skipped, end a session.
+pub const LINE_LIMIT: usize = 65_536;
 
 /// A data block of which bytes are lacking.
 #[derive(Drop)]
@@ -30,9 +30,9 @@ enum Reading {
     Block(OpenBlock),
     /// In the two bytes behind a whole block, of which the first may be read.
     Behind(SetLine, Vec<u8>, Option<u8>),
-    /// In what is skipped behind a bad data chunk: so many bytes so far, which are fewer than `LONGEST_LINE`.
+    /// In what is skipped behind a bad data chunk: so many bytes so far, which are fewer than `LINE_LIMIT`.
     Skip(u16),
-    /// The session has ended: nothing more is read.
+    /// At an end: nothing more is read.
     Ended,
 }
 
@@ -45,7 +45,7 @@ pub struct Session {
     // The bytes of the line so far.
     part: Vec<u8>,
     commands: Vec<Command>,
-    ghost short: { vec_len part < LONGEST_LINE },
+    ghost short: { vec_len part < LINE_LIMIT },
 }
 
 impl Session {
@@ -53,7 +53,7 @@ impl Session {
     ghost use Rattle.std.specs.Option.{option_to_list};
     ghost use Rattle.flash_trace.specs.Lines.{line_of};
     ghost use Rattle.flash_trace.specs.Commands.{InLine, InBlock, Behind, Skipping, has_ended, line_read, block_of, behind_block, in_skip, after_skip};
-    ghost use Rattle.flash_trace.specs.Sessions.{reader_at, reader_of, waiting_of, Took, Reads, GoesOn};
+    ghost use Rattle.flash_trace.specs.Sessions.{reader_at, reader_of, waiting_of, Took, Reads, LeavesRest};
 
     /// A session that was given nothing. Its values have at most `item_max` bytes.
     pub fn new(alloc: Global, item_max: u32) -> Session
@@ -70,7 +70,7 @@ impl Session {
         }
     }
 
-    /// Whether it has ended.
+    /// Whether its reader has met an end: nothing more is read.
     pub fn has_ended(&self) -> bool
         ensures { result ≡ has_ended (reader_of self.now) }
     {
@@ -87,7 +87,7 @@ impl Session {
         std::mem::replace(&mut self.commands, Vec::new(self.alloc))
     }
 
-    /// Reads more bytes.
+    /// Reads more bytes, and keeps the commands that they end. Where memory runs out the session is of no more use.
     pub fn feed(&mut self, bytes: &[u8]) -> Result<(), AllocError>
         ensures { OnOk result (Reads self.old bytes.now self.new) }
     {
@@ -101,7 +101,7 @@ impl Session {
     // Reads the bytes up to where the reader stands elsewhere, and gives those behind them.
     fn feed_some<'a>(&mut self, bytes: &'a [u8]) -> Result<&'a [u8], AllocError>
         requires { 0 < length bytes.now }
-        ensures { IfOk result (λ rest. GoesOn self.old (reader_of self.old) bytes.now self.new rest.now) }
+        ensures { IfOk result (λ rest. LeavesRest self.old (reader_of self.old) bytes.now self.new rest.now) }
     {
         match std::mem::replace(&mut self.reading, Reading::Ended) {
             Reading::Line => self.feed_line(bytes),
@@ -115,10 +115,10 @@ impl Session {
     // The bytes of a line, up to its line feed.
     fn feed_line<'a>(&mut self, bytes: &'a [u8]) -> Result<&'a [u8], AllocError>
         requires { 0 < length bytes.now }
-        ensures { IfOk result (λ rest. GoesOn self.old (InLine self.old.part.items) bytes.now self.new rest.now) }
+        ensures { IfOk result (λ rest. LeavesRest self.old (InLine self.old.part.items) bytes.now self.new rest.now) }
     {
         let (front, behind) = cut_at_feed(bytes);
-        if front.len() >= LONGEST_LINE - self.part.len() {
+        if front.len() >= LINE_LIMIT - self.part.len() {
             self.reading = Reading::Ended;
             return Ok(&[]);
         }
@@ -161,7 +161,7 @@ impl Session {
     // The bytes that the block lacks.
     fn feed_block<'a>(&mut self, block: OpenBlock, bytes: &'a [u8]) -> Result<&'a [u8], AllocError>
         requires { 0 < length bytes.now }
-        ensures { IfOk result (λ rest. GoesOn self.old (InBlock block.line block.bytes.items) bytes.now self.new rest.now) }
+        ensures { IfOk result (λ rest. LeavesRest self.old (InBlock block.line block.bytes.items) bytes.now self.new rest.now) }
     {
         let OpenBlock {
             line,
@@ -188,7 +188,7 @@ impl Session {
         bytes: &'a [u8],
     ) -> Result<&'a [u8], AllocError>
         requires { 0 < length bytes.now }
-        ensures { IfOk result (λ rest. GoesOn self.old (Behind line block.items (option_to_list first)) bytes.now self.new rest.now) }
+        ensures { IfOk result (λ rest. LeavesRest self.old (Behind line block.items (option_to_list first)) bytes.now self.new rest.now) }
     {
         match first {
             None => self.reading = Reading::Behind(line, block, Some(bytes[0])),
@@ -249,7 +249,7 @@ impl Session {
     // The bytes that are skipped, up to a line feed.
     fn feed_skip<'a>(&mut self, skipped: u16, bytes: &'a [u8]) -> &'a [u8]
         requires { 0 < length bytes.now }
-        ensures { GoesOn self.old (Skipping skipped) bytes.now self.new result.now }
+        ensures { LeavesRest self.old (Skipping skipped) bytes.now self.new result.now }
     {
         let (front, behind) = cut_at_feed(bytes);
         self.begin_line();
@@ -278,9 +278,9 @@ fn cut_at_feed(bytes: &[u8]) -> (&[u8], Option<&[u8]>)
     }
 }
 
-// How many bytes are skipped with these, where they are fewer than `LONGEST_LINE`.
+// How many bytes are skipped with these, where they are fewer than `LINE_LIMIT`, which is 2^16.
 fn skipped_with(skipped: u16, bytes: &[u8]) -> Option<u16>
-    ensures { result ≡ (if nat_lt (skipped + length bytes.now) LONGEST_LINE then Some (skipped + length bytes.now) else None) }
+    ensures { result ≡ (if nat_lt (skipped + length bytes.now) LINE_LIMIT then Some (skipped + length bytes.now) else None) }
 {
     u16::try_from(bytes.len().saturating_add(usize::from(skipped))).ok()
 }

@@ -42,10 +42,10 @@ impl SessionNumber {
 /// One step of a script. A `say` names the range of the script that its bytes stand in.
 #[derive(Clone, Copy, Debug, PartialEq, Eq)]
 pub enum Step {
-    /// The clock's reading, in Unix seconds.
+    /// A reading of the clock, in Unix seconds.
     Clock(u64),
     /// The session is given the bytes of the script from the first place up to the second, and a line end.
     Say(SessionNumber, u32, u32),
-    /// The session does what it was given.
+    /// A turn of the session: it does the commands that it has read.
     Run(SessionNumber),
 }

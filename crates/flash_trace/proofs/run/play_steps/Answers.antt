@@ -3,9 +3,9 @@ use Rattle.flash_names.specs.declared.geometry.Geometry.{Geometry}
 use Rattle.flash_trace.specs.declared.step.Step.{Step}
 use Rattle.flash_trace.specs.Playing.{Play, play_from}
 use Rattle.flash_trace.proofs.Acting.{front_item}
-use Rattle.flash_trace.proofs.Going.{goes_on}
+use Rattle.flash_trace.proofs.Going.{trace_goes_on}
 use Rattle.flash_trace.specs.Seats.{AreSeats, state_of}
-use Rattle.flash_trace.specs.Scripts.{AreWithin, step_meant}
+use Rattle.flash_trace.specs.CodeScripts.{AreWithin, step_meant}
 use Rattle.flash_trace.proofs.run.play_steps.Goals as goal
 
 pub steps-preserved : goal.steps-preserved
@@ -23,7 +23,7 @@ steps-preserved c =
     record {
       counted = omega (arith, was.counted);
       geometry = one.geometry ∙ was.geometry;
-      going = goes_on c.steps.core c.step.new.core c.steps.play c.step.new.self bytes c.step-item.result (c.steps.line + 1) was.going one.done (subst (λ (h : Geometry). AreSeats h.item_max c.step.new.self.seats.items) (sym one.geometry) one.seats) one.tells;
+      going = trace_goes_on c.steps.core c.step.new.core c.steps.play c.step.new.self bytes c.step-item.result (c.steps.line + 1) was.going one.done (subst (λ (h : Geometry). AreSeats h.item_max c.step.new.self.seats.items) (sym one.geometry) one.seats) one.tells;
       within = (subst (AreWithin (length bytes)) front was.within).1;
       left = ap (λ (h : Geometry). play_from h after (c.steps.line + 1 + 1) (map (step_meant bytes) rest)) one.geometry
           ∙ ap (λ (p : Play). play_from gg p (c.steps.line + 1 + 1) (map (step_meant bytes) rest)) one.done

@@ -1,6 +1,6 @@
 use Rattle.std.proofs.Common.{◌≡◌, sym, ◌∙◌}
 use Rattle.flash_names.specs.Faults.{Rose}
-use Rattle.flash_trace.specs.Ends.{journal_wanted}
+use Rattle.flash_trace.specs.CommandLine.{journal_wanted}
 use Rattle.flash_trace.proofs.Ending.{at_done, at_script, at_asked, at_begun, read_bytes}
 use Rattle.flash_trace.proofs.run.run_trace.Goals as goal
 

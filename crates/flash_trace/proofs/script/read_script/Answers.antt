@@ -2,7 +2,8 @@ use Rattle.std.proofs.Common.{◌+◌, length, take, map, Option, Some, sym, ◌
 use Rattle.std.proofs.lemmas.Result.{err_from_is_err_and}
 use Rattle.flash_trace.specs.declared.fault.Why.{Why}
 use Rattle.flash_trace.specs.declared.fault.ScriptFault.{ScriptFault}
-use Rattle.flash_trace.specs.Scripts.{fault_of, step_meant, IsFault}
+use Rattle.flash_trace.specs.CodeScripts.{step_meant, IsFault}
+use Rattle.flash_trace.specs.Scripts.{fault_of}
 use Rattle.flash_trace.proofs.ScriptHead.{fault_no_line, fault_head, fault_behind, script_is}
 use Rattle.flash_trace.proofs.ScriptReadings.{has_seats}
 use Rattle.flash_trace.proofs.script.read_script.Goals as goal

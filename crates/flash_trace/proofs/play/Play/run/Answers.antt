@@ -1,7 +1,7 @@
 use Rattle.std.proofs.Common.{◌≡◌, ◌+◌, ◌-◌, [], Some, sym, ◌∙◌, ap, subst}
 use Rattle.std.specs.Prelude.{slice_set}
 use Rattle.flash_machine.specs.Legal.{IsNew}
-use Rattle.flash_trace.specs.Playing.{Seat, Kept}
+use Rattle.flash_trace.specs.Playing.{Seat, StoreState}
 use Rattle.flash_trace.specs.Seats.{entries_of, kept_of, seat_of, state_of}
 use Rattle.flash_trace.specs.Sessions.{reader_of, waiting_of}
 use Rattle.flash_trace.proofs.Turns.{seats_put, ran, played_by, seat_by}
@@ -20,7 +20,7 @@ returns-clause-done g c =
     let seat = seat_of c.take_seat-seat.result in
     let taken = c.take_commands-commands in
     let first : Seat = record seat { reader = reader_of taken.new.self; waiting = waiting_of taken.new.self } in
-    let after : Kept × Seat = (kept_of c.do_all.new.core, seat_of c.do_all.new.self) in
+    let after : StoreState × Seat = (kept_of c.do_all.new.core, seat_of c.do_all.new.self) in
     let begins : first ≡ record seat { waiting = [] } = seat_by seat (reader_of taken.new.self) (waiting_of taken.new.self) taken.ensures.reader taken.ensures.waiting in
     let put = seats_put c.args.core.now.geometry.item_max c.args.self.now.seats.items c.take_seat-seat.new.self.seats.items c.put_seat.new.self.seats.items (number - 1) c.end_turn.new.self c.take_seat-seat.ensures.seats c.put_seat.ensures.seats in
     let over = ap (λ (s : Seat). slice_set p.seats (number - 1) (Some s)) c.end_turn.ensures.ended in
