@@ -13,10 +13,14 @@ const ROUND_BYTES: usize = 2_097_152;
 
 const ROUNDS: u32 = 60;
 
+// The polynomial of CRC-32C with its bits reversed (RFC 3720, section 12.1).
+const CASTAGNOLI: u32 = 0x82F6_3B78;
+
 /// Whether both ways agree on a few bytes. It prints no times.
 pub fn try_out(rt: &HostRuntime) -> io::Result<()> {
     let agree = plain(&byte_table(), b"123456789") == crc32c(b"123456789");
-    println!(rt; "checksum: both ways agree: {agree}")
+    println!(rt; "checksum: both ways agree: {agree}")?;
+    must_agree(agree)
 }
 
 /// Measures both ways in turn, and prints the fastest round of each.
@@ -77,13 +81,19 @@ fn round(rt: &HostRuntime, table: &[u32; 256], bytes: &mut [u8]) -> io::Result<T
     let start = Instant::now(rt)?;
     let second = repeat(bytes, times, |b| crc32c(b));
     let tables = start.elapsed(rt)?.as_nanos();
-    if first != second {
-        println!(rt; "the two ways differ")?;
-    }
+    must_agree(first == second)?;
     Ok(Times {
         plain: u64::try_from(plain).unwrap_or(u64::MAX),
         tables: u64::try_from(tables).unwrap_or(u64::MAX),
     })
+}
+
+fn must_agree(agree: bool) -> io::Result<()> {
+    if agree {
+        Ok(())
+    } else {
+        Err(io::ErrorKind::InvalidData.into())
+    }
 }
 
 // The checksums of all turns, added by xor.
@@ -100,7 +110,7 @@ fn repeat<F: Fn(&[u8]) -> u32>(bytes: &mut [u8], times: usize, checksum: F) -> u
     all
 }
 
-// Bytes of no pattern, by a linear congruence.
+// Bytes of no pattern, by a linear congruence (Numerical Recipes, ranqd1).
 fn fill(bytes: &mut [u8]) {
     let mut state = 1u32;
     for byte in bytes {
@@ -117,18 +127,20 @@ fn byte_table() -> [u32; 256] {
     table
 }
 
+// The remainder of one byte.
 fn remainder(byte: u32) -> u32 {
-    let mut r = byte;
+    let mut remainder = byte;
     for _ in 0..8 {
-        r = (r >> 1) ^ (0x82F6_3B78 * (r & 1));
+        remainder = (remainder >> 1) ^ (CASTAGNOLI * (remainder & 1));
     }
-    r
+    remainder
 }
 
+// The checksum, byte by byte.
 fn plain(table: &[u32; 256], bytes: &[u8]) -> u32 {
-    let mut r = u32::MAX;
+    let mut remainder = u32::MAX;
     for byte in bytes {
-        r = (r >> 8) ^ table[((r ^ u32::from(*byte)) & 0xff) as usize];
+        remainder = (remainder >> 8) ^ table[((remainder ^ u32::from(*byte)) & 0xff) as usize];
     }
-    r ^ u32::MAX
+    remainder ^ u32::MAX
 }

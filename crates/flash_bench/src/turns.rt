@@ -43,12 +43,12 @@ impl Shared for Counter {
 
 // What a run does: so many turns in each thread, with so many steps of work between them.
 #[derive(Clone, Copy)]
-struct Load {
+pub struct Load {
     turns: u64,
     steps: u64,
 }
 
-// Work that a compiler can't leave out, since its result is used.
+// Work that a compiler can't leave out, since its result is used: a multiplicative congruence.
 fn work(steps: u64, start: u64) -> u64 {
     let mut x = start | 1;
     for _ in 0..steps {
@@ -108,15 +108,15 @@ fn turns_of_many<R: Threads + Wait + Sync>(
     let Split::Pass(other) = pass.split(turn) else {
         return 0;
     };
-    let half = doublings - 1;
+    let doublings_left = doublings - 1;
     let (one, two) = join(
         rt,
         move ||
             requires { IsPassOf {F = Unit {0}} (λ _. tt) turn.now pass × IsSync R.row }
-        { turns_of_many(rt, turn, pass, half, load) },
+        { turns_of_many(rt, turn, pass, doublings_left, load) },
         move ||
             requires { IsPassOf {F = Unit {0}} (λ _. tt) turn.now other × IsSync R.row }
-        { turns_of_many(rt, turn, other, half, load) },
+        { turns_of_many(rt, turn, other, doublings_left, load) },
     );
     one ^ two
 }
@@ -131,15 +131,15 @@ fn locks_of_many<R: Threads + Wait + Sync>(
     if doublings == 0 {
         return locks_of_one(rt, lock, load);
     }
-    let half = doublings - 1;
+    let doublings_left = doublings - 1;
     let (one, two) = join(
         rt,
         move ||
             requires { IsSync R.row }
-        { locks_of_many(rt, lock, half, load) },
+        { locks_of_many(rt, lock, doublings_left, load) },
         move ||
             requires { IsSync R.row }
-        { locks_of_many(rt, lock, half, load) },
+        { locks_of_many(rt, lock, doublings_left, load) },
     );
     one ^ two
 }
@@ -216,52 +216,45 @@ pub fn tiny<R: Threads + Wait + Sync + Clock + Print>(rt: &R, alloc: Global) -> 
     println!(rt; "turns: {turns} under the lock, {locks} under a Mutex")
 }
 
-/// Measures the lock beside a `Mutex`: `uncontended`, or the number of threads, 4 or 16.
+/// The doublings of threads and the load of each by its word: `uncontended`, or the number of threads, 4 or 16.
+pub fn load_of(choice: &str) -> Option<(u32, Load)> {
+    let (doublings, turns, steps) = match choice {
+        "uncontended" => (0, 5_000_000, 0),
+        "4" => (2, 200_000, STEPS),
+        "16" => (4, 50_000, STEPS),
+        _ => return None,
+    };
+    Some((doublings, Load { turns, steps }))
+}
+
+/// Measures the lock beside a `Mutex`, in turn, and prints each round.
 pub fn measure<R: Threads + Wait + Sync + Clock + Print>(
     rt: &R,
     alloc: Global,
     choice: &str,
+    doublings: u32,
+    load: Load,
 ) -> io::Result<()> {
-    let (doublings, load) = match choice {
-        "uncontended" => (
-            0,
-            Load {
-                turns: 5_000_000,
-                steps: 0,
-            },
-        ),
-        "4" => (
-            2,
-            Load {
-                turns: 200_000,
-                steps: STEPS,
-            },
-        ),
-        "16" => (
-            4,
-            Load {
-                turns: 50_000,
-                steps: STEPS,
-            },
-        ),
-        _ => return println!(rt; "turns: uncontended, 4 or 16"),
-    };
     for _ in 0..ROUNDS {
         let by_lock = time_turns(rt, alloc, doublings, load)?;
         let by_mutex = time_locks(rt, alloc, doublings, load)?;
-        let turns = tenths(&by_lock);
-        let locks = tenths(&by_mutex);
-        let percent = turns.saturating_mul(100) / locks.max(1);
-        if by_lock.work == 0 && by_mutex.work == 0 {
-            println!(rt; "the work came to nothing")?;
-        }
-        println!(rt;
-            "{choice}: lock {}.{} ns a turn, Mutex {}.{} ns, {percent} %",
-            turns / 10,
-            turns % 10,
-            locks / 10,
-            locks % 10
-        )?;
+        print_round(rt, choice, &by_lock, &by_mutex)?;
     }
     Ok(())
+}
+
+fn print_round<R: Print>(rt: &R, choice: &str, by_lock: &Took, by_mutex: &Took) -> io::Result<()> {
+    let turns = tenths(by_lock);
+    let locks = tenths(by_mutex);
+    let percent = turns.saturating_mul(100) / locks.max(1);
+    if by_lock.work == 0 && by_mutex.work == 0 {
+        println!(rt; "the work came to nothing")?;
+    }
+    println!(rt;
+        "{choice}: lock {}.{} ns a turn, Mutex {}.{} ns, {percent} %",
+        turns / 10,
+        turns % 10,
+        locks / 10,
+        locks % 10
+    )
 }

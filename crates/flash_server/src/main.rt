@@ -13,7 +13,9 @@ const USAGE: &str = "usage: flash_server trace [--journal] < SCRIPT
        flash_server --help | --version
 ";
 
-const HELP: &str = "flash_server: a memcached server with flash storage
+const HELP: &str =
+    "flash_server: the store of a memcached server with flash storage. It runs scripts on the store;
+there is no server yet.
 
 usage: flash_server trace [--journal] < SCRIPT
        flash_server --help | --version
@@ -26,6 +28,7 @@ exit status: 0 done, 2 usage, 3 a bad line in the script, 4 standard input faile
 5 standard output failed, 6 the device failed, 7 out of memory
 ";
 
+// The version that the server will answer to memcached's `version`.
 const VERSION: &str = "flash_server 1.6-flash\n";
 
 // The statuses with which the program exits.
@@ -47,7 +50,7 @@ fn main(rt: HostRuntime) -> ExitCode {
     let status = match read_words(&rt) {
         Ok(Some(words)) => run(&rt, &words),
         Ok(None) => usage(&rt),
-        Err(AllocError) => NO_MEMORY,
+        Err(AllocError) => failed(&rt, "out of memory", NO_MEMORY),
     };
     ExitCode::from(status)
 }
@@ -67,8 +70,8 @@ fn read_words(rt: &HostRuntime) -> Result<Option<Vec<Blob>>, AllocError> {
 
 fn run(rt: &HostRuntime, words: &[Blob]) -> u8 {
     match words {
-        [word] if word.bytes() == b"--help".as_slice() => said(rt, HELP),
-        [word] if word.bytes() == b"--version".as_slice() => said(rt, VERSION),
+        [word] if word.bytes() == b"--help".as_slice() => print_text(rt, HELP),
+        [word] if word.bytes() == b"--version".as_slice() => print_text(rt, VERSION),
         [word, ..] if word.bytes() == b"trace".as_slice() => trace(rt, words),
         _ => usage(rt),
     }
@@ -89,11 +92,11 @@ fn trace(rt: &HostRuntime, words: &[Blob]) -> u8 {
     }
 }
 
-// Prints to standard output.
-fn said(rt: &HostRuntime, text: &str) -> u8 {
+// Prints the text to standard output, and answers the exit status.
+fn print_text(rt: &HostRuntime, text: &str) -> u8 {
     match rt.print(text) {
         Ok(()) => DONE,
-        Err(_) => SINK_FAULT,
+        Err(_) => failed(rt, "standard output failed", SINK_FAULT),
     }
 }
 

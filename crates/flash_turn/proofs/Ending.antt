@@ -11,8 +11,8 @@ use Rattle.flash_turn.specs.declared.view.View.{View}
 use Rattle.flash_turn.specs.declared.pass.Pass.{Pass}
 use Rattle.flash_turn.specs.declared.turn.Turn.{Turn}
 use Rattle.flash_turn.specs.Counts.{total, one_if_some, waits, holds_value}
-use Rattle.flash_turn.specs.Rule.{Kept}
-use Rattle.flash_turn.specs.Passes.{view_of, IsPassOf, Meets}
+use Rattle.flash_turn.specs.Rule.{LockRule}
+use Rattle.flash_turn.specs.Passes.{view_of, IsPassOf, FitsPass}
 use Rattle.flash_turn.specs.Closing.{IsLast}
 use Rattle.flash_turn.proofs.Totals.{total_le, total_few, some_most}
 
@@ -23,7 +23,7 @@ holder_waits false o k h = omega arith
 
 module _ {T E O F : Type 0} (story : T → Option (List E)) (own : T → List (ℕ × O)) (fixed : T → F) where
   -- where both words are one, no pass has the value
-  at_home : (s : State (Option (Box T Global)) (View T)) (kept : Kept story own fixed s) → kept.drawn % 2 ^ 64 ≡ kept.served % 2 ^ 64 → total holds_value s.views ≡ 0
+  at_home : (s : State (Option (Box T Global)) (View T)) (kept : LockRule story own fixed s) → kept.drawn % 2 ^ 64 ≡ kept.served % 2 ^ 64 → total holds_value s.views ≡ 0
   at_home s kept same =
       let few = total_few waits s.views (λ u. some_most u.ticket) in
       let room = kept.numbered.few in
@@ -31,7 +31,7 @@ module _ {T E O F : Type 0} (story : T → Option (List E)) (own : T → List (�
       let is : kept.served ≡ kept.drawn = one_turn kept.served kept.drawn (2 ^ 64) (omega arith) (omega arith) (sym same) in
       let fewer = total_le holds_value waits s.views (λ j u there. holder_waits u.has u.ticket kept.served (λ has. let o = (kept.known j u there).out has in o.0)) in omega arith
 
-  module _ (turn : Turn T) (pass : Pass T) (id : ℕ) (words : List ℕ) (slots : List (Option (Box T Global))) (final : Final (Seen (Kept story own fixed) id (view_of pass)) words slots) where
+  module _ (turn : Turn T) (pass : Pass T) (id : ℕ) (words : List ℕ) (slots : List (Option (Box T Global))) (final : Final (Seen (LockRule story own fixed) id (view_of pass)) words slots) where
     word_0 : (x : ℕ) → get_elem? words 0 ≡ some x → final.1.0.drawn % 2 ^ 64 ≡ x
     word_0 x h = some-injective (final.1.0.drawn % 2 ^ 64) x (sym (ap (λ l. get_elem? l 0) (sym final.2 ∙ final.1.0.words)) ∙ h)
 
@@ -50,7 +50,7 @@ module _ {T E O F : Type 0} (story : T → Option (List E)) (own : T → List (�
 
     -- the slot has the value, as the pass would find it
     pub left_there : (tickets served : ℕ) (slot : Option (Box T Global)) → IsPassOf fixed turn pass → get_elem? words 0 ≡ some tickets → get_elem? words 1 ≡ some served → tickets ≡ served → get_elem? slots 0 ≡ some slot
-        → (b : Box T Global) × (slot ≡ Some b) × Meets story own fixed turn pass b.value
+        → (b : Box T Global) × (slot ≡ Some b) × FitsPass story own fixed turn pass b.value
     left_there tickets served slot of a b same c =
         let kept = final.1.0 in
         let home = kept.home (at_home final.0 kept (word_0 tickets a ∙ (same ∙ sym (word_1 served b)))) in

@@ -11,7 +11,7 @@ use Rattle.atomic_table.proofs.Lists.{one_turn}
 use Rattle.flash_names.specs.Shared.{Begins, own_of}
 use Rattle.flash_turn.specs.declared.view.View.{View}
 use Rattle.flash_turn.specs.Counts.{total, one_if_at, waits, waits_at, holds_value, given, times}
-use Rattle.flash_turn.specs.Rule.{Knows, Kept}
+use Rattle.flash_turn.specs.Rule.{Knows, LockRule}
 use Rattle.flash_turn.specs.Steps.{Self, DrawsAt, Looks}
 use Rattle.flash_turn.proofs.Totals.{total-set, total_same, total_lt, total_few, some_most, at_here}
 use Rattle.flash_turn.proofs.Lists.{each_set}
@@ -25,9 +25,9 @@ holder_le served false o h = omega arith
 
 module _ {T E O F A : Type 0} (story : T → Option (List E)) (own : T → List (ℕ × O)) (fixed : T → F) where
   -- a step that changes no word and takes no slot, after which the pass still holds what it held
-  pub quiet : (s : State (Option (Box T A)) (View T)) (id : ℕ) (v w : View T) (words : List ℕ) (kept : Kept story own fixed s) → get_elem? s.views id ≡ some v → words ≡ s.words
+  pub quiet : (s : State (Option (Box T A)) (View T)) (id : ℕ) (v w : View T) (words : List ℕ) (kept : LockRule story own fixed s) → get_elem? s.views id ≡ some v → words ≡ s.words
       → w.numbers ≡ v.numbers → w.spare ≡ v.spare → w.over ≡ v.over → w.ticket ≡ v.ticket → w.has ≡ v.has → Knows story own fixed kept.served kept.value w
-      → Kept story own fixed (record { words = words; homes = s.homes; views = set s.views id w })
+      → LockRule story own fixed (record { words = words; homes = s.homes; views = set s.views id w })
   quiet s id v w words kept here same numbers spare over ticket has knows = record {
     drawn = kept.drawn;
     served = kept.served;
@@ -42,8 +42,8 @@ module _ {T E O F A : Type 0} (story : T → Option (List E)) (own : T → List 
   }
 
   -- a ticket was drawn by a pass that had none
-  drew : (s : State (Option (Box T A)) (View T)) (id : ℕ) (v : View T) (kept : Kept story own fixed s) → get_elem? s.views id ≡ some v → v.ticket ≡ None
-      → Kept story own fixed (record { words = slice_set s.words 0 ((slice_index s.words 0 + 1) % 2 ^ 64); homes = s.homes; views = set s.views id (record v { ticket = Some kept.drawn }) })
+  drew : (s : State (Option (Box T A)) (View T)) (id : ℕ) (v : View T) (kept : LockRule story own fixed s) → get_elem? s.views id ≡ some v → v.ticket ≡ None
+      → LockRule story own fixed (record { words = slice_set s.words 0 ((slice_index s.words 0 + 1) % 2 ^ 64); homes = s.homes; views = set s.views id (record v { ticket = Some kept.drawn }) })
   drew s id v kept here empty =
       let w : View T = record v { ticket = Some kept.drawn } in
       let knows = kept.known id v here in
@@ -62,7 +62,7 @@ module _ {T E O F A : Type 0} (story : T → Option (List E)) (own : T → List 
       }
 
   -- a pass that has no ticket draws one where the number of those drawn is `old`
-  pub draws : (slots id old : ℕ) (m : Self T A) → m.0.ticket ≡ None → Allows (Kept story own fixed) slots id m 0 (λ k. either (k == old) ((old + 1) % 2 ^ 64) k) (DrawsAt old m)
+  pub draws : (slots id old : ℕ) (m : Self T A) → m.0.ticket ≡ None → Allows (LockRule story own fixed) slots id m 0 (λ k. either (k == old) ((old + 1) % 2 ^ 64) k) (DrawsAt old m)
   draws slots id old m empty s kept wide here fits =
       let x : ℕ = slice_index s.words 0 in
       let v : View T = m.0 in
@@ -73,20 +73,20 @@ module _ {T E O F A : Type 0} (story : T → Option (List E)) (own : T → List 
         w,
         keeps,
         tt,
-        subst (λ b. Kept story own fixed (after w (either b ((old + 1) % 2 ^ 64) x))) (sym (eq-eqb x old hit)) (subst (λ k. Kept story own fixed (after w ((k + 1) % 2 ^ 64))) hit (drew s id v kept here empty)),
+        subst (λ b. LockRule story own fixed (after w (either b ((old + 1) % 2 ^ 64) x))) (sym (eq-eqb x old hit)) (subst (λ k. LockRule story own fixed (after w ((k + 1) % 2 ^ 64))) hit (drew s id v kept here empty)),
         ((λ _. (kept.drawn, ap (λ l. slice_index l 0) kept.words, refl)), (λ miss. absurd (miss hit))),
       ))
       (λ miss. (
         v,
         keeps,
         tt,
-        subst (λ b. Kept story own fixed (after v (either b ((old + 1) % 2 ^ 64) x))) (sym (ne_eqb x old miss))
+        subst (λ b. LockRule story own fixed (after v (either b ((old + 1) % 2 ^ 64) x))) (sym (ne_eqb x old miss))
             (quiet s id v v (slice_set s.words 0 x) kept here (ap (λ l. slice_set l 0 (slice_index l 0)) kept.words ∙ sym kept.words) refl refl refl refl refl (kept.known id v here)),
         ((λ hit. absurd (miss hit)), (λ _. refl)),
       ))
 
   -- the pass whose ticket is served finds the value at home
-  found : (s : State (Option (Box T A)) (View T)) (id : ℕ) (v : View T) (kept : Kept story own fixed s) → get_elem? s.views id ≡ some v → v.ticket ≡ Some kept.served → v.has ≡ false → total holds_value s.views ≡ 0
+  found : (s : State (Option (Box T A)) (View T)) (id : ℕ) (v : View T) (kept : LockRule story own fixed s) → get_elem? s.views id ≡ some v → v.ticket ≡ Some kept.served → v.has ≡ false → total holds_value s.views ≡ 0
   found s id v kept here at idle =
       let mine : waits_at kept.served v ≡ 1 = ap (one_if_at kept.served) at ∙ at_here kept.served in
       let not-mine : holds_value v ≡ 0 = ap (λ b. cond b 1 0) idle in
@@ -94,9 +94,9 @@ module _ {T E O F A : Type 0} (story : T → Option (List E)) (own : T → List 
       let one = kept.queue.distinct kept.served in omega arith
 
   -- where its ticket is served, the pass takes the value
-  takes_it : (s : State (Option (Box T A)) (View T)) (id : ℕ) (v : View T) (k : ℕ) (kept : Kept story own fixed s) → get_elem? s.views id ≡ some v → v.ticket ≡ Some k → v.has ≡ false → kept.served ≡ k
+  takes_it : (s : State (Option (Box T A)) (View T)) (id : ℕ) (v : View T) (k : ℕ) (kept : LockRule story own fixed s) → get_elem? s.views id ≡ some v → v.ticket ≡ Some k → v.has ≡ false → kept.served ≡ k
       → (b : Box T A) → s.homes ≡ some (Some b) ∷ [] → b.value ≡ kept.value
-      → Kept story own fixed (record { words = slice_set s.words 1 (slice_index s.words 1); homes = slice_set s.homes 0 none; views = set s.views id (record v { has = true; took = Some b.value }) })
+      → LockRule story own fixed (record { words = slice_set s.words 1 (slice_index s.words 1); homes = slice_set s.homes 0 none; views = set s.views id (record v { has = true; took = Some b.value }) })
   takes_it s id v k kept here at idle is b home same =
       let w : View T = record v { has = true; took = Some b.value } in
       let knows = kept.known id v here in
@@ -116,7 +116,7 @@ module _ {T E O F A : Type 0} (story : T → Option (List E)) (own : T → List 
         unknown = λ x nobody. kept.unknown x (sym (total_same (given x) s.views id v w here refl) ∙ nobody);
       }
 
-  served_is : (s : State (Option (Box T A)) (View T)) (id : ℕ) (v : View T) (k : ℕ) (kept : Kept story own fixed s) → get_elem? s.views id ≡ some v → v.ticket ≡ Some k → kept.served % 2 ^ 64 ≡ k % 2 ^ 64 → kept.served ≡ k
+  served_is : (s : State (Option (Box T A)) (View T)) (id : ℕ) (v : View T) (k : ℕ) (kept : LockRule story own fixed s) → get_elem? s.views id ≡ some v → v.ticket ≡ Some k → kept.served % 2 ^ 64 ≡ k % 2 ^ 64 → kept.served ≡ k
   served_is s id v k kept here at same =
       let between = kept.queue.between id v here k at in
       let few = total_few waits s.views (λ u. some_most u.ticket) in
@@ -124,7 +124,7 @@ module _ {T E O F A : Type 0} (story : T → Option (List E)) (own : T → List 
       let count = kept.queue.count in
       one_turn kept.served k (2 ^ 64) between.0 (omega arith) same
 
-  pub looks : (id : ℕ) (v : View T) (k : ℕ) → v.ticket ≡ Some k → v.has ≡ false → Allows {S = Option (Box T A)} (Kept story own fixed) 1 id (v, []) 1 (λ n. n) (Looks story own fixed (v, []))
+  pub looks : (id : ℕ) (v : View T) (k : ℕ) → v.ticket ≡ Some k → v.has ≡ false → Allows {S = Option (Box T A)} (LockRule story own fixed) 1 id (v, []) 1 (λ n. n) (Looks story own fixed (v, []))
   looks id v k at idle s kept wide here fits =
       let word : slice_index s.words 1 ≡ kept.served % 2 ^ 64 = ap (λ l. slice_index l 1) kept.words in
       let knows = kept.known id v here in
@@ -157,7 +157,7 @@ module _ {T E O F A : Type 0} (story : T → Option (List E)) (own : T → List 
 
   -- the same for what the code holds
   pub looks_from : (slots id : ℕ) (m : Self T A) (v : View T) (k : ℕ) → slots ≡ 1 → m ≡ (v, []) → v.ticket ≡ Some k → v.has ≡ false
-      → Allows (Kept story own fixed) slots id m 1 (λ n. n) (Looks story own fixed m)
+      → Allows (LockRule story own fixed) slots id m 1 (λ n. n) (Looks story own fixed m)
   looks_from slots id m v k one is at idle =
-      subst (λ x. Allows (Kept story own fixed) x id m 1 (λ n. n) (Looks story own fixed m)) (sym one)
-      (subst (λ (x : Self T A). Allows (Kept story own fixed) 1 id x 1 (λ n. n) (Looks story own fixed x)) (sym is) (looks id v k at idle))
+      subst (λ x. Allows (LockRule story own fixed) x id m 1 (λ n. n) (Looks story own fixed m)) (sym one)
+      (subst (λ (x : Self T A). Allows (LockRule story own fixed) 1 id x 1 (λ n. n) (Looks story own fixed x)) (sym is) (looks id v k at idle))

@@ -8,7 +8,7 @@ use Rattle.flash_turn.specs.declared.view.View.{View}
 use Rattle.flash_turn.specs.declared.pass.Pass.{Pass}
 use Rattle.flash_turn.specs.declared.turn.Turn.{Turn}
 use Rattle.flash_turn.specs.Steps.{Self, new_view, first_view, Serves, Looks, Takes}
-use Rattle.flash_turn.specs.Passes.{view_of, IsIdle, IsPassOf, Meets}
+use Rattle.flash_turn.specs.Passes.{view_of, IsIdle, IsPassOf, FitsPass}
 use Rattle.flash_turn.specs.HeldValues.{IsHolding}
 
 abbrev carried : {B : Type 0} → Option B → List (ℕ × Option B) → Option B
@@ -70,7 +70,7 @@ module _ {T E O F A : Type 0} (story : T → Option (List E)) (own : T → List 
       → p ≡ (record v { ticket = Some k; has = true; took = Some t.0.value }, (0, None) ∷ [])
   taken_me m n p v k is t after = after ∙ (ap (λ x. (x.0, (0, None) ∷ rest x.1)) t.1 ∙ ap (λ x. (record x.0 { has = true; took = Some t.0.value }, (0, None) ∷ [])) is)
 
-  pub meets : (turn : Turn T) (pass : Pass T) (m n : Self T A) (k : ℕ) → IsPassOf fixed turn pass → m ≡ (record (view_of pass) { ticket = Some k }, []) → (t : Takes story own fixed m n) → Meets story own fixed turn pass t.0.value
+  pub meets : (turn : Turn T) (pass : Pass T) (m n : Self T A) (k : ℕ) → IsPassOf fixed turn pass → m ≡ (record (view_of pass) { ticket = Some k }, []) → (t : Takes story own fixed m n) → FitsPass story own fixed turn pass t.0.value
   meets turn pass m n k of is t =
       let seen = t.2 of.idle.last (ap (λ x. x.0.seen) is ∙ of.idle.seen) in record {
         begins = subst (λ o. Begins (option_and_then story o) (story t.0.value)) (sym of.idle.seen) seen.0;

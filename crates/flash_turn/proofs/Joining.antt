@@ -8,7 +8,7 @@ use Rattle.flash_names.specs.Shared.{Begins, told_length, longer}
 use Rattle.flash_names.proofs.Stories.{begins_self, begins_shorter}
 use Rattle.flash_turn.specs.declared.view.View.{View}
 use Rattle.flash_turn.specs.Counts.{holds_value, claims}
-use Rattle.flash_turn.specs.Rule.{Knows, Kept}
+use Rattle.flash_turn.specs.Rule.{Knows, LockRule}
 use Rattle.flash_turn.specs.Steps.{Self, Compares, spent_view, joined_view, with_longer}
 use Rattle.flash_turn.proofs.Totals.{total_same, term_le}
 use Rattle.flash_turn.proofs.Lists.{each_set}
@@ -25,7 +25,7 @@ module _ {T E F : Type 0} (story : T → Option (List E)) (fixed : T → F) wher
 
 module _ {T E O F A : Type 0} (story : T → Option (List E)) (own : T → List (ℕ × O)) (fixed : T → F) where
   pub joins : (id other : ℕ) (v w : View T) (n : ℕ) (joined : List ℕ) → v.numbers ≡ n ∷ joined → w.ticket ≡ None → w.has ≡ false → w.spare ≡ None → w.over ≡ false
-      → Joins {S = Option (Box T A)} (Kept story own fixed) id v other w (joined_view v w) spent_view
+      → Joins {S = Option (Box T A)} (LockRule story own fixed) id v other w (joined_view v w) spent_view
   joins id other v w n joined numbers w-ticket w-has w-spare w-over s kept here apart there =
       let both : View T = joined_view v w in
       let mid : List (View T) = set s.views id both in
@@ -53,7 +53,7 @@ module _ {T E O F A : Type 0} (story : T → Option (List E)) (own : T → List 
         unknown = λ x nobody. kept.unknown x (sym (given_joins s.views id other v w both x here there refl) ∙ nobody);
       }
 
-  pub compares : (n id : ℕ) (v : View T) (c : List (ℕ × Option (Box T A))) (x y : T) → v.seen ≡ Some x → v.met ≡ Some y → Allows {S = Option (Box T A)} (Kept story own fixed) n id (v, c) 0 (λ k. k) (Compares story own fixed (v, c))
+  pub compares : (n id : ℕ) (v : View T) (c : List (ℕ × Option (Box T A))) (x y : T) → v.seen ≡ Some x → v.met ≡ Some y → Allows {S = Option (Box T A)} (LockRule story own fixed) n id (v, c) 0 (λ k. k) (Compares story own fixed (v, c))
   compares n id v c x y seen met s kept wide here fits =
       let w : View T = record v { seen = with_longer story v.seen v.met; met = None } in
       let knows = kept.known id v here in
@@ -78,8 +78,8 @@ module _ {T E O F A : Type 0} (story : T → Option (List E)) (own : T → List 
       )
 
   -- the same for what the code holds
-  pub compares_from : (slots id : ℕ) (m : Self T A) (v : View T) (c : List (ℕ × Option (Box T A))) (x y : T) → m ≡ (v, c) → v.seen ≡ Some x → v.met ≡ Some y → Allows {S = Option (Box T A)} (Kept story own fixed) slots id m 0 (λ k. k) (Compares story own fixed m)
-  compares_from slots id m v c x y is seen met = subst (λ (z : Self T A). Allows (Kept story own fixed) slots id z 0 (λ k. k) (Compares story own fixed z)) (sym is) (compares slots id v c x y seen met)
+  pub compares_from : (slots id : ℕ) (m : Self T A) (v : View T) (c : List (ℕ × Option (Box T A))) (x y : T) → m ≡ (v, c) → v.seen ≡ Some x → v.met ≡ Some y → Allows {S = Option (Box T A)} (LockRule story own fixed) slots id m 0 (λ k. k) (Compares story own fixed m)
+  compares_from slots id m v c x y is seen met = subst (λ (z : Self T A). Allows (LockRule story own fixed) slots id z 0 (λ k. k) (Compares story own fixed z)) (sym is) (compares slots id v c x y seen met)
 
 chosen : {T E : Type 0} (story : T → Option (List E)) (x y : T) (b : Bool) → option_and_then story (if b then Some y else Some x) ≡ (if b then story y else story x)
 chosen story x y true = refl

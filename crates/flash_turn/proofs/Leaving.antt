@@ -6,7 +6,7 @@ use Rattle.atomic_table.specs.Table.{Allows, gives}
 use Rattle.flash_names.specs.Shared.{Begins, without}
 use Rattle.flash_turn.specs.declared.view.View.{View}
 use Rattle.flash_turn.specs.Counts.{total, times, one_if_at, waits_at, given, claims}
-use Rattle.flash_turn.specs.Rule.{Knows, Kept}
+use Rattle.flash_turn.specs.Rule.{Knows, LockRule}
 use Rattle.flash_turn.specs.Steps.{Self, Serves}
 use Rattle.flash_turn.proofs.Totals.{total_same, term_le, terms_le, at_here}
 use Rattle.flash_turn.proofs.Lists.{each_set, set_only}
@@ -30,7 +30,7 @@ module _ {T E O F A : Type 0} (story : T → Option (List E)) (own : T → List 
   pub serves : (id : ℕ) (v : View T) (b : Box T A) (t : T) (k n : ℕ) (joined : List ℕ)
       → v.ticket ≡ Some k → v.has ≡ true → v.took ≡ Some t → v.numbers ≡ n ∷ joined
       → Begins (story t) (story b.value) → without n (own b.value) ≡ without n (own t) → fixed b.value ≡ fixed t
-      → Allows (Kept story own fixed) 1 id (v, (0, Some b) ∷ []) 1 (λ x. (x + 1) % 2 ^ 64) (Serves (v, (0, Some b) ∷ []))
+      → Allows (LockRule story own fixed) 1 id (v, (0, Some b) ∷ []) 1 (λ x. (x + 1) % 2 ^ 64) (Serves (v, (0, Some b) ∷ []))
   serves id v b t k n joined at has took numbers grows others same s kept wide here fits =
       let w : View T = record v { ticket = None; has = false; seen = Some b.value; left = Some b.value } in
       let knows = kept.known id v here in
@@ -78,7 +78,7 @@ module _ {T E O F A : Type 0} (story : T → Option (List E)) (own : T → List 
   pub serves_from : (slots id : ℕ) (m : Self T A) (v : View T) (b : Box T A) (t : T) (k n : ℕ) (joined : List ℕ) → slots ≡ 1 → m ≡ (v, (0, Some b) ∷ [])
       → v.ticket ≡ Some k → v.has ≡ true → v.took ≡ Some t → v.numbers ≡ n ∷ joined
       → Begins (story t) (story b.value) → without n (own b.value) ≡ without n (own t) → fixed b.value ≡ fixed t
-      → Allows (Kept story own fixed) slots id m 1 (λ x. (x + 1) % 2 ^ 64) (Serves m)
+      → Allows (LockRule story own fixed) slots id m 1 (λ x. (x + 1) % 2 ^ 64) (Serves m)
   serves_from slots id m v b t k n joined one is at has took numbers grows others same =
-      subst (λ x. Allows (Kept story own fixed) x id m 1 (λ y. (y + 1) % 2 ^ 64) (Serves m)) (sym one)
-      (subst (λ x. Allows (Kept story own fixed) 1 id x 1 (λ y. (y + 1) % 2 ^ 64) (Serves x)) (sym is) (serves id v b t k n joined at has took numbers grows others same))
+      subst (λ x. Allows (LockRule story own fixed) x id m 1 (λ y. (y + 1) % 2 ^ 64) (Serves m)) (sym one)
+      (subst (λ x. Allows (LockRule story own fixed) 1 id x 1 (λ y. (y + 1) % 2 ^ 64) (Serves x)) (sym is) (serves id v b t k n joined at has took numbers grows others same))

@@ -10,7 +10,7 @@ use Rattle.flash_turn.specs.declared.view.View.{View}
 use Rattle.flash_turn.specs.Counts.{total, claims, one_if_at}
 use Rattle.flash_turn.specs.Queue.{Queue}
 use Rattle.flash_turn.specs.Numbered.{Numbered}
-use Rattle.flash_turn.specs.Rule.{Knows, Kept}
+use Rattle.flash_turn.specs.Rule.{Knows, LockRule}
 use Rattle.flash_turn.specs.Steps.{first_view}
 use Rattle.flash_turn.proofs.Totals.{at_most, at_else}
 use Rattle.flash_names.proofs.Stories.{begins_self}
@@ -50,7 +50,7 @@ module _ {T E O F : Type 0} (story : T → Option (List E)) (own : T → List (�
     out = λ e. absurd (cc e);
   }
 
-  pub opens : {A : Type 0} (b : Box T A) (value : T) → b.value ≡ value → own value ≡ [] → Kept story own fixed (opening (0 ∷ 0 ∷ 2 ∷ []) (Some b ∷ []) (first_view value))
+  pub opens : {A : Type 0} (b : Box T A) (value : T) → b.value ≡ value → own value ≡ [] → LockRule story own fixed (opening (0 ∷ 0 ∷ 2 ∷ []) (Some b ∷ []) (first_view value))
   opens b value is empty = record {
     drawn = 0;
     served = 0;

@@ -12,7 +12,7 @@ use Rattle.flash_names.specs.Shared.{own_of}
 use Rattle.flash_turn.specs.declared.view.View.{View}
 use Rattle.flash_turn.specs.Counts.{total, times, one_if_at, holds_value, given, claims, overs}
 use Rattle.flash_turn.specs.Numbered.{limit, Numbered}
-use Rattle.flash_turn.specs.Rule.{Knows, Kept}
+use Rattle.flash_turn.specs.Rule.{Knows, LockRule}
 use Rattle.flash_turn.specs.Next.{IsNext}
 use Rattle.flash_turn.specs.Steps.{Self, Numbers, PutsBack, split_left, split_right}
 use Rattle.flash_turn.proofs.Totals.{total-append, total_same, total_lt, term_le, at_here}
@@ -22,10 +22,10 @@ use Rattle.flash_turn.proofs.Numbers.{next_unused, next_small, numbered_draws, n
 
 module _ {T E O F A : Type 0} (story : T → Option (List E)) (own : T → List (ℕ × O)) (fixed : T → F) where
   -- a step on word 2 alone
-  renumbered : (s : State (Option (Box T A)) (View T)) (id : ℕ) (v w : View T) (words : List ℕ) (next : ℕ) (kept : Kept story own fixed s) → get_elem? s.views id ≡ some v
+  renumbered : (s : State (Option (Box T A)) (View T)) (id : ℕ) (v w : View T) (words : List ℕ) (next : ℕ) (kept : LockRule story own fixed s) → get_elem? s.views id ≡ some v
       → words ≡ kept.drawn % 2 ^ 64 ∷ kept.served % 2 ^ 64 ∷ next ∷ [] → Numbered next (set s.views id w)
       → w.numbers ≡ v.numbers → w.ticket ≡ v.ticket → w.has ≡ v.has → Knows story own fixed kept.served kept.value w
-      → Kept story own fixed (record { words = words; homes = s.homes; views = set s.views id w })
+      → LockRule story own fixed (record { words = words; homes = s.homes; views = set s.views id w })
   renumbered s id v w words next kept here is numbered numbers ticket has knows = record {
     drawn = kept.drawn;
     served = kept.served;
@@ -39,7 +39,7 @@ module _ {T E O F A : Type 0} (story : T → Option (List E)) (own : T → List 
     unknown = λ x nobody. kept.unknown x (sym (total_same (given x) s.views id v w here (ap (times x) numbers)) ∙ nobody);
   }
 
-  next_is : (s : State (Option (Box T A)) (View T)) (id : ℕ) (v : View T) (kept : Kept story own fixed s) → get_elem? s.views id ≡ some v → IsNext story own fixed A v (slice_index s.words 2)
+  next_is : (s : State (Option (Box T A)) (View T)) (id : ℕ) (v : View T) (kept : LockRule story own fixed s) → get_elem? s.views id ≡ some v → IsNext story own fixed A v (slice_index s.words 2)
   next_is s id v kept here = record {
     moment = s;
     kept = kept;
@@ -49,7 +49,7 @@ module _ {T E O F A : Type 0} (story : T → Option (List E)) (own : T → List 
     unused = ap (λ k. total (claims k) s.views) (ap (λ l. slice_index l 2) kept.words) ∙ next_unused kept.next s.views id v v kept.numbered;
   }
 
-  pub draws_number : (n id : ℕ) (v : View T) (c : List (ℕ × Option (Box T A))) → v.spare ≡ None → v.over ≡ false → Allows (Kept story own fixed) n id (v, c) 2 (λ k. (k + 1) % 2 ^ 64) (Numbers story own fixed (v, c))
+  pub draws_number : (n id : ℕ) (v : View T) (c : List (ℕ × Option (Box T A))) → v.spare ≡ None → v.over ≡ false → Allows (LockRule story own fixed) n id (v, c) 2 (λ k. (k + 1) % 2 ^ 64) (Numbers story own fixed (v, c))
   draws_number n id v c none low s kept wide here fits =
       let knows = kept.known id v here in
       let small = next_small kept.next s.views id v v kept.numbered in
@@ -73,7 +73,7 @@ module _ {T E O F A : Type 0} (story : T → Option (List E)) (own : T → List 
         ((λ _. ap (λ k. (record v { spare = Some k }, c)) (sym word)), (λ high. absurd (below (let h : limit ≤ kept.next = omega arith in h))), next_is s id v kept here),
       ))
 
-  pub puts_back : (n id : ℕ) (v : View T) (c : List (ℕ × Option (Box T A))) → v.over ≡ true → Allows (Kept story own fixed) n id (v, c) 2 (λ k. (k + (2 ^ 64 - 1)) % 2 ^ 64) (PutsBack (v, c))
+  pub puts_back : (n id : ℕ) (v : View T) (c : List (ℕ × Option (Box T A))) → v.over ≡ true → Allows (LockRule story own fixed) n id (v, c) 2 (λ k. (k + (2 ^ 64 - 1)) % 2 ^ 64) (PutsBack (v, c))
   puts_back n id v c full s kept wide here fits =
       let knows = kept.known id v here in
       let small = next_small kept.next s.views id v v kept.numbered in
@@ -93,7 +93,7 @@ module _ {T E O F A : Type 0} (story : T → Option (List E)) (own : T → List 
         refl,
       )
 
-  pub splits : (id : ℕ) (v : View T) (n : ℕ) → v.spare ≡ Some n → Splits {S = Option (Box T A)} (Kept story own fixed) id v (split_left v) (split_right v)
+  pub splits : (id : ℕ) (v : View T) (n : ℕ) → v.spare ≡ Some n → Splits {S = Option (Box T A)} (LockRule story own fixed) id v (split_left v) (split_right v)
   splits id v n spare s kept here =
       let left : View T = split_left v in
       let right : View T = split_right v in
@@ -127,8 +127,8 @@ module _ {T E O F A : Type 0} (story : T → Option (List E)) (own : T → List 
       }
 
   -- the same for what the code holds
-  pub splits_from : (id : ℕ) (m : Self T A) (v : View T) (c : List (ℕ × Option (Box T A))) (n : ℕ) → m ≡ (record v { spare = Some n }, c) → Splits {S = Option (Box T A)} (Kept story own fixed) id m.0 (split_left m.0) (split_right m.0)
-  splits_from id m v c n is = subst (λ (x : View T). Splits {S = Option (Box T A)} (Kept story own fixed) id x (split_left x) (split_right x)) (sym (ap (λ x. x.0) is)) (splits id (record v { spare = Some n }) n refl)
+  pub splits_from : (id : ℕ) (m : Self T A) (v : View T) (c : List (ℕ × Option (Box T A))) (n : ℕ) → m ≡ (record v { spare = Some n }, c) → Splits {S = Option (Box T A)} (LockRule story own fixed) id m.0 (split_left m.0) (split_right m.0)
+  splits_from id m v c n is = subst (λ (x : View T). Splits {S = Option (Box T A)} (LockRule story own fixed) id x (split_left x) (split_right x)) (sym (ap (λ x. x.0) is)) (splits id (record v { spare = Some n }) n refl)
 
-  pub puts_back_from : (slots id : ℕ) (m : Self T A) (v : View T) (c : List (ℕ × Option (Box T A))) → m ≡ (record v { over = true }, c) → Allows (Kept story own fixed) slots id m 2 (λ k. (k + (2 ^ 64 - 1)) % 2 ^ 64) (PutsBack m)
-  puts_back_from slots id m v c is = subst (λ (x : Self T A). Allows (Kept story own fixed) slots id x 2 (λ k. (k + (2 ^ 64 - 1)) % 2 ^ 64) (PutsBack x)) (sym is) (puts_back slots id (record v { over = true }) c refl)
+  pub puts_back_from : (slots id : ℕ) (m : Self T A) (v : View T) (c : List (ℕ × Option (Box T A))) → m ≡ (record v { over = true }, c) → Allows (LockRule story own fixed) slots id m 2 (λ k. (k + (2 ^ 64 - 1)) % 2 ^ 64) (PutsBack m)
+  puts_back_from slots id m v c is = subst (λ (x : Self T A). Allows (LockRule story own fixed) slots id x 2 (λ k. (k + (2 ^ 64 - 1)) % 2 ^ 64) (PutsBack x)) (sym is) (puts_back slots id (record v { over = true }) c refl)

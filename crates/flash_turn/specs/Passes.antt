@@ -40,10 +40,11 @@ module _ {T : Type 0} where
   abbrev pub took_story : {E : Type 0} → (T → Option (List E)) → Pass T → Option (List E)
   took_story story pass = option_and_then story (view_of pass).took
 
-  -- the face that its last lock turn took, and the one that it left; none before the first
+  -- the face that its last lock turn took; none before the first
   abbrev pub took_face : {X : Type 0} → (T → X) → Pass T → Option X
   took_face face pass = option_map face (view_of pass).took
 
+  -- the face that it left; none before the first
   abbrev pub left_face : {X : Type 0} → (T → X) → Pass T → Option X
   left_face face pass = option_map face (view_of pass).left
 
@@ -56,7 +57,7 @@ module _ {T : Type 0} where
   fixed_of fixed turn = fixed turn.table.shared.key.value
 
   -- what the pass finds in its turn: a story that begins with all that it had seen, its own things as it left them, and the fixed part of the lock
-  pub record Meets {E O F : Type 0} (story : T → Option (List E)) (own : T → List (ℕ × O)) (fixed : T → F) (turn : Turn T) (pass : Pass T) (value : T) : Type 0 where
+  pub record FitsPass {E O F : Type 0} (story : T → Option (List E)) (own : T → List (ℕ × O)) (fixed : T → F) (turn : Turn T) (pass : Pass T) (value : T) : Type 0 where
     pub begins : Begins (seen story pass) (story value)
     pub as_left : own_of pass.number (own value) ≡ left_own own pass
     pub same_fixed : fixed value ≡ fixed_of fixed turn

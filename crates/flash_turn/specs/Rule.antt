@@ -25,7 +25,7 @@ module _ {T E O F : Type 0} (story : T → Option (List E)) (own : T → List (�
 
   -- Word 0 counts the tickets drawn, word 1 those served, and word 2 is the next number. There is one value: at home
   -- where no pass has it, and else as the pass took it whose ticket is served. A number that was never given owns nothing
-  pub record Kept {A : Type 0} (s : State (Option (Box T A)) (View T)) : Type 0 where
+  pub record LockRule {A : Type 0} (s : State (Option (Box T A)) (View T)) : Type 0 where
     pub drawn : ℕ
     pub served : ℕ
     pub next : ℕ

@@ -1,4 +1,4 @@
--- What each step tells the pass that makes it: `m` is what it was, `r` what the step found, and `n` what it is.
+-- What each step tells the pass that makes it: what it was before, what the step found, and what it is after.
 use Rattle.std.specs.Prelude.{◌≡◌, ◌≢◌, ℕ, ◌%◌, ◌^◌, ◌<◌, ◌≤◌, true, false, List, [], ◌∷◌, ◌++◌, Option, Some, None, Box, nat_lt, if◌then◌else◌, MatchOption}
 use Rattle.atomic_table.specs.Table.{Me}
 use Rattle.flash_names.specs.Shared.{Begins, told_length, own_of}
@@ -45,41 +45,41 @@ Self T A = Me (Option (Box T A)) (View T)
 module _ {T A : Type 0} where
   -- a ticket was drawn: the number found is the ticket's remainder
   abbrev pub Draws : Self T A → ℕ → Self T A → Type 0
-  Draws m r n = (k : ℕ) × (r ≡ k % 2 ^ 64) × (n ≡ (record m.0 { ticket = Some k }, m.1))
+  Draws before found after = (k : ℕ) × (found ≡ k % 2 ^ 64) × (after ≡ (record before.0 { ticket = Some k }, before.1))
 
   -- the same where there is a ticket, and else nothing changed
   abbrev pub MayDraw : Self T A → Option ℕ → Self T A → Type 0
-  MayDraw m ticket n = MatchOption ticket (n ≡ m) (λ r. Draws m r n)
+  MayDraw before ticket after = MatchOption ticket (after ≡ before) (λ found. Draws before found after)
 
   -- a ticket was drawn, if the number found is `first`, and else nothing changed
   abbrev pub DrawsAt : ℕ → Self T A → ℕ → Self T A → Type 0
-  DrawsAt first m r n = (r ≡ first → Draws m r n) × (r ≢ first → n ≡ m)
+  DrawsAt first before found after = (found ≡ first → Draws before found after) × (found ≢ first → after ≡ before)
 
   -- the value in the slot was given back, and the next ticket is served
   abbrev pub Serves : Self T A → ℕ → Self T A → Type 0
-  Serves m r n = (b : Box T A) → m.1 ≡ (0, Some b) ∷ [] → n ≡ (record m.0 { ticket = None; has = false; seen = Some b.value; left = Some b.value }, [])
+  Serves before found after = (b : Box T A) → before.1 ≡ (0, Some b) ∷ [] → after ≡ (record before.0 { ticket = None; has = false; seen = Some b.value; left = Some b.value }, [])
 
   -- a number that was too large was put back
   abbrev pub PutsBack : Self T A → ℕ → Self T A → Type 0
-  PutsBack m r n = n ≡ (record m.0 { over = false }, m.1)
+  PutsBack before found after = after ≡ (record before.0 { over = false }, before.1)
 
 module _ {T E O F A : Type 0} (story : T → Option (List E)) (own : T → List (ℕ × O)) (fixed : T → F) where
   -- the value was taken: its story begins with what was seen, its fixed part is known, and the things of the pass are as it left them
   abbrev pub Takes : Self T A → Self T A → Type 0
-  Takes m n = (b : Box T A) × (n ≡ (record m.0 { has = true; took = Some b.value }, (0, Some b) ∷ []))
-      × ((x : T) → m.0.seen ≡ Some x → Begins (story x) (story b.value) × (fixed b.value ≡ fixed x))
-      × ((k : ℕ) (joined : List ℕ) → m.0.numbers ≡ k ∷ joined → own_of k (own b.value) ≡ things_left own k m.0.left)
+  Takes before after = (b : Box T A) × (after ≡ (record before.0 { has = true; took = Some b.value }, (0, Some b) ∷ []))
+      × ((x : T) → before.0.seen ≡ Some x → Begins (story x) (story b.value) × (fixed b.value ≡ fixed x))
+      × ((k : ℕ) (joined : List ℕ) → before.0.numbers ≡ k ∷ joined → own_of k (own b.value) ≡ things_left own k before.0.left)
 
   -- a number was drawn: below the limit it is for a new pass, else it has to be put back
   abbrev pub Numbers : Self T A → ℕ → Self T A → Type 0
-  Numbers m r n = (r < limit → n ≡ (record m.0 { spare = Some r }, m.1)) × (limit ≤ r → n ≡ (record m.0 { over = true }, m.1)) × IsNext story own fixed A m.0 r
+  Numbers before found after = (found < limit → after ≡ (record before.0 { spare = Some found }, before.1)) × (limit ≤ found → after ≡ (record before.0 { over = true }, before.1)) × IsNext story own fixed A before.0 found
 
   -- where its ticket is served the value was taken, and else nothing changed
   abbrev pub Looks : Self T A → ℕ → Self T A → Type 0
-  Looks m r n = (k : ℕ) → m.0.ticket ≡ Some k → (r ≡ k % 2 ^ 64 → Takes m n) × (r ≢ k % 2 ^ 64 → n ≡ m)
+  Looks before found after = (k : ℕ) → before.0.ticket ≡ Some k → (found ≡ k % 2 ^ 64 → Takes before after) × (found ≢ k % 2 ^ 64 → after ≡ before)
 
   -- of what was seen and what was met the longer story is seen, and begins with both; and no number stands twice among the pass's
   abbrev pub Compares : Self T A → ℕ → Self T A → Type 0
-  Compares m r n = (n ≡ (record m.0 { seen = with_longer story m.0.seen m.0.met; met = None }, m.1))
-      × ((x y : T) → m.0.seen ≡ Some x → m.0.met ≡ Some y → (z : T) × (with_longer story m.0.seen m.0.met ≡ Some z) × Begins (story x) (story z) × Begins (story y) (story z) × (fixed z ≡ fixed x))
-      × ((k : ℕ) → times k m.0.numbers ≤ 1)
+  Compares before found after = (after ≡ (record before.0 { seen = with_longer story before.0.seen before.0.met; met = None }, before.1))
+      × ((x y : T) → before.0.seen ≡ Some x → before.0.met ≡ Some y → (z : T) × (with_longer story before.0.seen before.0.met ≡ Some z) × Begins (story x) (story z) × Begins (story y) (story z) × (fixed z ≡ fixed x))
+      × ((k : ℕ) → times k before.0.numbers ≤ 1)

@@ -15,7 +15,7 @@ pub enum Closing<T> {
 
 impl<T: Shared + Drop> Turn<T> {
     /// Ends the lock. `Value` is the value as the pass would find it; `Out` comes exactly where the number of the
-    /// tickets drawn and that of the tickets served differ, and the value is dropped.
+    /// tickets drawn and that of the tickets served differ, and then nothing is handed back.
     pub fn close(self, pass: Pass<T>) -> Closing<T>
         requires { IsPassOf T.fixed self pass }
         ensures { Closes T.story T.own T.fixed Global self pass result }

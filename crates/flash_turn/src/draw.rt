@@ -6,7 +6,7 @@ use std::hint::spin_loop;
 use std::sync::Wait;
 
 // How often a thread looks at a lock that isn't free before it sleeps.
-const LOOKS: u32 = 100;
+const SPINS: u32 = 100;
 
 impl<T: Shared> Turn<T> {
     ghost use Rattle.flash_turn.specs.Passes.{view_of, number_of};
@@ -30,7 +30,8 @@ impl<T: Shared> Turn<T> {
                 return ticket;
             }
             self.sleepers.sleep(rt, marked);
-            self.look();
+            // Free or not, the mark is set again and a ticket tried.
+            self.spin_until_free();
         }
         unreachable!()
     }
@@ -44,7 +45,7 @@ impl<T: Shared> Turn<T> {
         ensures drawn { MayDraw pass.old.seat.me result pass.new.seat.me }
     {
         let first = self.try_draw(pass);
-        if first.is_none() && self.look() {
+        if first.is_none() && self.spin_until_free() {
             return self.try_draw(pass);
         }
         first
@@ -66,8 +67,8 @@ impl<T: Shared> Turn<T> {
     }
 
     // Looks until the lock is free, but not for long. It answers whether it is.
-    fn look(&self) -> bool {
-        for _ in 0..LOOKS {
+    fn spin_until_free(&self) -> bool {
+        for _ in 0..SPINS {
             if self.is_free() {
                 return true;
             }

@@ -10,8 +10,7 @@ use std::snapshot::Snapshot;
 /// The value out of its lock, which `Turn::enter` gives and `leave` takes back. It can't be dropped.
 pub type Held<'a, T> = HeldIn<'a, T, Box<T>>;
 
-/// The same with the value in a holder `B`: the contract of `leave` can name the pass only where the type of the
-/// holder is a parameter.
+/// `Held` with the type of the box as a parameter, since the type that is handed out has to name what owns the value.
 pub struct HeldIn<'a, T: Shared, B> {
     pub(crate) pass: &'a mut Pass<T>,
     pub(crate) turn: &'a Turn<T>,

@@ -1,4 +1,5 @@
-//! One value that threads change in turn: a ticket lock whose passes remember what they saw of the value.
+//! One value that threads change in turn: a lock, in no order of coming, whose passes remember what they saw of the
+//! value.
 #![tactic(auto)]
 
 mod close;

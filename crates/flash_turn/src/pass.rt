@@ -5,7 +5,7 @@ use crate::View;
 use crate::rule::Slot;
 use atomic_table::Seat;
 
-/// Leave to take the value in turn, under a number of its own, with the memory of what it saw.
+/// The right to take the value in turn, under a number of its own, with the memory of what it saw.
 #[derive(Drop)]
 pub struct Pass<T> {
     pub(crate) seat: Seat<Slot<T>, View<T>>,

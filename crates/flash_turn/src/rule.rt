@@ -1,5 +1,5 @@
 // The rule of the table, and the names of its steps.
-ghost use Rattle.flash_turn.specs.Rule.{Kept};
+ghost use Rattle.flash_turn.specs.Rule.{LockRule};
 ghost use Rattle.flash_turn.specs.Steps.{first_view, split_left, split_right, DrawsAt, Looks, Serves, Numbers, PutsBack, spent_view, joined_view, Compares};
 
 use crate::{Shared, View};
@@ -16,7 +16,7 @@ pub struct Rule<T> {
 }
 
 impl<T: Shared> TableRule<Slot<T>, View<T>, Snapshot<T>> for Rule<T> {
-    ghost holds = { λ start. Kept T.story T.own T.fixed };
+    ghost holds = { λ start. LockRule T.story T.own T.fixed };
 
     ghost first = { λ start. first_view start.value };
 }

@@ -14,19 +14,22 @@ pub struct Sleepers {
 }
 
 impl Sleepers {
+    /// No thread sleeps, and none was woken.
     pub fn new() -> Sleepers {
         Sleepers {
             state: AtomicU64::new(0),
         }
     }
 
-    /// Says that a thread may sleep. It has to try the lock once more before it does.
+    /// Says that a thread may sleep, and answers the marked state, for `sleep`. The thread has to try the lock once
+    /// more before it does.
     pub fn mark(&self) -> u64 {
         self.state.fetch_or(MARK, SeqCst) | MARK
     }
 
     /// Sleeps, unless there was a wake since the mark.
     pub fn sleep<R: Wait>(&self, rt: &R, marked: u64) {
+        // `park` compares the lower 32 bits.
         self.state.park(rt, (marked & 0xffff_ffff) as u32);
     }
 
@@ -39,7 +42,8 @@ impl Sleepers {
         }
     }
 
-    // Takes the mark away from this marked state, and counts a wake, if no other thread has.
+    // Takes the mark away from this marked state, and counts a wake, if no other thread has: `MARK` added to a marked
+    // state clears the mark and carries into the number of the wakes.
     fn takes_mark(&self, state: u64) -> bool {
         self.state
             .compare_exchange(state, state.wrapping_add(MARK), SeqCst, SeqCst)

@@ -13,7 +13,7 @@ const LIMIT: u64 = 4_294_967_295;
 pub enum Split<T> {
     /// A pass of its own, for another thread.
     Pass(Pass<T>),
-    /// The numbers are used up: the one that was drawn is at or above 2^32 - 1.
+    /// The numbers of passes are used up: the one that was drawn is at or above 2^32 - 1.
     Used(u64),
 }
 
@@ -24,7 +24,7 @@ impl<T: Shared> Pass<T> {
         requires { IsPassOf T.fixed turn.now self.old }
         ensures pass { IsPassOf T.fixed turn.now self.new }
         ensures same { IsSame self.old self.new }
-        ensures split { SplitsOff T.story T.own T.fixed Global turn.now self.old result }
+        ensures split { SplitsOff T.story T.own T.face T.fixed Global turn.now self.old result }
     {
         let shared = &turn.table.shared;
         let drawn = shared.fetch_add::<Number<T>>(&mut self.seat, 2, 1);

@@ -10,7 +10,8 @@ use std::snapshot::Snapshot;
 use std::sync::Wait;
 use std::thread::yield_now;
 
-/// A value that threads change in turn, in a box, under tickets.
+/// A lock round one boxed value, which threads change in turn. Those that wait come in no order, and nothing is said
+/// of how long they wait.
 #[derive(Drop)]
 pub struct Turn<T: Shared> {
     pub(crate) table: Table<Slot<T>, View<T>, Snapshot<T>, Rule<T>, Global>,
@@ -19,14 +20,14 @@ pub struct Turn<T: Shared> {
 }
 
 impl<T: Shared> Turn<T> {
-    ghost use Rattle.flash_turn.specs.Passes.{view_of, number_of, seen, left_own, fixed_of, IsPassOf, Meets};
+    ghost use Rattle.flash_turn.specs.Passes.{view_of, number_of, seen, took_face, left_face, left_own, fixed_of, IsPassOf, FitsPass};
     ghost use Rattle.flash_turn.specs.HeldValues.{value_of, taken_of, turn_of, pass_of, IsHolding, IsHeld};
 
     /// The lock of this value, and its first pass, which has the number 1 and has seen the whole story. The value
-    /// owns nothing yet for any number. Where there is no memory, the value comes back.
+    /// has to own nothing for any number. Where there is no memory, the value comes back.
     pub fn new(alloc: Global, value: T) -> Result<(Turn<T>, Pass<T>), T>
         requires { T.own value ≡ [] }
-        ensures made { IfOk result (λ made. IsPassOf T.fixed made.0 made.1 × (number_of made.1 ≡ 1) × (seen T.story made.1 ≡ T.story value) × (left_own T.own made.1 ≡ []) × (fixed_of T.fixed made.0 ≡ T.fixed value)) }
+        ensures made { IfOk result (λ made. IsPassOf T.fixed made.0 made.1 × (number_of made.1 ≡ 1) × (seen T.story made.1 ≡ T.story value) × (left_own T.own made.1 ≡ []) × (took_face T.face made.1 ≡ None) × (left_face T.face made.1 ≡ None) × (fixed_of T.fixed made.0 ≡ T.fixed value)) }
         ensures refused { IfErr result (λ back. back ≡ value) }
     {
         let start = Snapshot::of(&value);
@@ -60,7 +61,7 @@ impl<T: Shared> Turn<T> {
         ensures held { IsHeld T.fixed result }
         ensures number { number_of (pass_of result) ≡ number_of pass.old }
         ensures value { value_of result ≡ taken_of result }
-        ensures told { Meets T.story T.own T.fixed self.now pass.old (taken_of result) }
+        ensures told { FitsPass T.story T.own T.fixed self.now pass.old (taken_of result) }
     {
         let value = self.take(rt, pass);
         let taken = Snapshot::of(&*value);
@@ -80,7 +81,7 @@ impl<T: Shared> Turn<T> {
         ensures number { number_of pass.new ≡ number_of pass.old }
         ensures holding { IsHolding (number_of pass.new) (view_of pass.new) }
         ensures took { (view_of pass.new).took ≡ Some result.value }
-        ensures told { Meets T.story T.own T.fixed self.now pass.old result.value }
+        ensures told { FitsPass T.story T.own T.fixed self.now pass.old result.value }
     {
         let shared = &self.table.shared;
         let ticket = self.draw(rt, pass);

@@ -1,5 +1,5 @@
 use Rattle.std.proofs.Common.{rules, [], ◌∙◌, ap, sym, false}
-use Rattle.std.specs.Option.{option_and_then}
+use Rattle.std.specs.Option.{option_and_then, option_map}
 use Rattle.flash_turn.specs.Rule.{things_left}
 use Rattle.flash_turn.specs.Steps.{new_view, split_left, split_right}
 use Rattle.flash_turn.proofs.Splitting.{draws_number, puts_back_from, splits_from}
@@ -37,6 +37,8 @@ returns-clause-split g c =
       pass_of g.T.Shared.fixed c.args.turn.now (record { seat = c.split_seat-seat.result; number = r }) (new_view r v.seen) (s.3 ∙ (d.0 ∙ h.table)) e (new_idle _ v h.idle r) h.knows,
       ap (λ x. option_and_then g.T.Shared.story x.0.seen) e,
       ap (λ x. things_left g.T.Shared.own r x.0.left) e,
+      ap (λ x. option_map g.T.Shared.face x.0.took) e,
+      ap (λ x. option_map g.T.Shared.face x.0.left) e,
       search rules,
       d.2.2,
     )

@@ -1,5 +1,5 @@
 use Rattle.std.proofs.Common.{◌≡◌, rules, Some, box_value, IsSome, subst, sym, ◌∙◌, ap, refl}
-use Rattle.flash_turn.specs.Passes.{Meets}
+use Rattle.flash_turn.specs.Passes.{FitsPass}
 use Rattle.flash_turn.proofs.Entering.{looks_from}
 use Rattle.flash_turn.proofs.Handed.{taken_me, meets, taken_holding, found_own, found_other, slot_of, moved_out, holding_of}
 use Rattle.flash_turn.proofs.turn.Turn.take.Goals as goal
@@ -49,5 +49,5 @@ returns-then-load-ticket g c =
       number = i.number;
       holding = rw (i.number) (holding_of _ _ _ _ me (taken_holding c.args.pass.now.number i.waits.0 v t.0.value c.requires.idle));
       took = ap (λ m. m.0.took) me ∙ ap Some value;
-      told = subst (λ y. Meets g.T.Shared.story g.T.Shared.own g.T.Shared.fixed c.args.self.now c.args.pass.now y) value (meets g.T.Shared.story g.T.Shared.own g.T.Shared.fixed c.args.self.now c.args.pass.now c.loop.pass.seat.me c.load.new.seat.me i.waits.0 c.requires i.waits.2 t);
+      told = subst (λ y. FitsPass g.T.Shared.story g.T.Shared.own g.T.Shared.fixed c.args.self.now c.args.pass.now y) value (meets g.T.Shared.story g.T.Shared.own g.T.Shared.fixed c.args.self.now c.args.pass.now c.loop.pass.seat.me c.load.new.seat.me i.waits.0 c.requires i.waits.2 t);
     }
