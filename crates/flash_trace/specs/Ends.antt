@@ -1,5 +1,5 @@
 -- How a trace ends, by what its source, its sink and its device tell before and after.
-use Rattle.std.specs.Prelude.{◌≡◌, ◌⊎◌, ℕ, ◌<◌, Bool, List, ◌++◌, length, Option, None, Some}
+use Rattle.std.specs.Prelude.{◌≡◌, ◌⊎◌, ℕ, ◌<◌, ◌≤◌, Bool, List, ◌++◌, length, Option, None, Some}
 use Rattle.flash_names.specs.declared.geometry.Geometry.{Geometry}
 use Rattle.flash_names.specs.Source.{IsAtEnd}
 use Rattle.flash_names.specs.Told.{in_front, behind}
@@ -40,10 +40,11 @@ abbrev pub AtNoMemory : Status → Type 0 → Type 0
 AtNoMemory statuses.NoMemory holds = holds
 AtNoMemory _ holds = Unit {0}
 
--- these bytes were read: all that there are, or more than a script may have
+-- these bytes were read: all that there are, or more than a script may have, but by 65,536 at most
 pub record HasRead (bytes : List ℕ) (left left_after : Option (List ℕ)) : Type 0 where
   pub taken : left ≡ in_front bytes left_after
   pub whole : IsAtEnd left_after ⊎ (16777216 < length bytes)
+  pub bounded : length bytes ≤ 16842752
 
 -- what was read, and whether the journal is wanted
 pub record IsRead (with_journal : Option Bool) (left left_after : Option (List ℕ)) : Type 0 where

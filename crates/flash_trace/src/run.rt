@@ -1,4 +1,4 @@
-ghost use Rattle.std.specs.Prelude.{◌≡◌, ◌↔◌, ◌<◌, ◌≤◌, ℕ, List, Option, true, false, Some, None, length, map, IfOk, IfErr, OnOk, OnErr, IsTrue, is_some};
+ghost use Rattle.std.specs.Prelude.{◌≡◌, ◌↔◌, ◌<◌, ◌≤◌, ◌+◌, ℕ, List, Option, true, false, Some, None, length, map, IfOk, IfErr, OnOk, OnErr, IsTrue, is_some};
 ghost use Rattle.flash_names.specs.Faults.{Rose, Counts};
 ghost use Rattle.flash_names.specs.Source.{IsAtEnd};
 ghost use Rattle.flash_names.specs.Told.{in_front};
@@ -105,6 +105,7 @@ fn read_piece<S: Source>(
     requires { 0 < length piece.old }
     ensures taken { OnOk result ((first : Option (List ℕ)) → first ≡ in_front bytes.old.items (S.left source.old) → first ≡ in_front bytes.new.items (S.left source.new)) }
     ensures more { IfOk result (λ more. more ≡ true → length bytes.old.items < length bytes.new.items) }
+    ensures bound { OnOk result (length bytes.new.items ≤ length bytes.old.items + length piece.old) }
     ensures end { IfOk result (λ more. more ≡ false → IsAtEnd (S.left source.new)) }
     ensures room { length piece.new ≡ length piece.old }
     ensures kept { S.faults source.old ≤ S.faults source.new }
@@ -122,7 +123,8 @@ fn read_piece<S: Source>(
 
 // Room for what a read gives.
 fn new_piece(alloc: Global) -> Result<Vec<u8>, AllocError>
-    ensures { IfOk result (λ piece. 0 < length piece.items) }
+    ensures some { IfOk result (λ piece. 0 < length piece.items) }
+    ensures bound { IfOk result (λ piece. length piece.items ≤ 65536) }
 {
     Ok(vec![in alloc; 0u8; PIECE]?)
 }

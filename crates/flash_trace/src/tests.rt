@@ -242,19 +242,30 @@ fn with_head(alloc: Global, steps: &[u8]) -> Result<Vec<u8>, AllocError> {
     Ok(script)
 }
 
-// A line of 65,536 bytes without a line feed ends its session: what stands before it is answered, and nothing after.
+// A line of 65,536 bytes without a line feed ends its session: what stands before it is answered, and nothing after. The
+// session is closed by its next turn, and what it is given before that is taken without a word.
 #[test]
 fn ends_a_session(rt: HostRuntime) -> Result<(), Fail> {
+    let table = [
+        (
+            "\nrun 1\nsay 1 get a\n",
+            "closed 5\nsession 1 5\nEND\r\n\nend 4\n",
+        ),
+        ("\nsay 1 get a\nrun 1\n", "session 1 5\nEND\r\n\nend 4\n"),
+        (
+            "\nsay 1 get a\nrun 1\nsay 1 get a\nrun 1\nsay 1\x20\n",
+            "closed 6\nclosed 8\nsession 1 5\nEND\r\n\nend 7\n",
+        ),
+    ];
     let alloc = rt.alloc();
-    let mut steps = b"say 1 get a\nsay 1 ".to_vec(alloc)?;
-    for _ in 0..65_536 {
-        steps.push(b'x')?;
+    for (later, wanted) in table {
+        let mut steps = b"say 1 get a\nsay 1 ".to_vec(alloc)?;
+        for _ in 0..65_536 {
+            steps.push(b'x')?;
+        }
+        push_all(&mut steps, &[later])?;
+        let (_, out) = traced(alloc, &["trace"], &with_head(alloc, &steps)?, NONE)?;
+        assert_eq!(rt; out.as_slice(), wanted.as_bytes());
     }
-    push_all(&mut steps, &["\nsay 1 get a\nrun 1\n"])?;
-    let (_, out) = traced(alloc, &["trace"], &with_head(alloc, &steps)?, NONE)?;
-    assert_eq!(rt;
-        out.as_slice(),
-        b"closed 4\nsession 1 5\nEND\r\n\nend 4\n".as_slice()
-    );
     Ok(())
 }

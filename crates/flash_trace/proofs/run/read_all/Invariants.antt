@@ -8,6 +8,8 @@ invariant-reads g l = record {
   taken : g.S.Source.left l.fn.source ≡ in_front l.bytes.items (g.S.Source.left l.source);
   kept : g.S.Source.faults l.fn.source ≤ g.S.Source.faults l.source;
   room : 0 < length l.piece.items;
+  small : length l.piece.items ≤ 65536;
+  bounded : length l.bytes.items ≤ 16842752;
 }
 
 abbrev pub decreases-reads : goal.decreases-reads
