@@ -10,6 +10,7 @@ mod GoingOn
 mod InMemory
 mod InTurns
 mod Lists
+mod Moments
 mod Numbered
 mod Outcomes
 mod Pieces

@@ -1,6 +1,6 @@
 -- Every script's journal is a run, and each of its sessions is answered by it.
-use Rattle.std.proofs.Common.{◌≡◌, ◌≢◌, ℕ, ◌+◌, ◌-◌, true, false, List, [], ◌∷◌, ◌++◌, length, if◌then◌else◌, refl, sym, ◌∙◌, ap, subst, arith, inl, inr, append_assoc}
-use Rattle.std.specs.Prelude.{nat_eq, nat_lt, codes}
+use Rattle.std.proofs.Common.{◌≡◌, ◌≢◌, ℕ, ◌+◌, ◌-◌, ◌^◌, true, false, List, [], ◌∷◌, ◌++◌, length, if◌then◌else◌, refl, sym, ◌∙◌, ap, subst, arith, inl, inr, append_assoc}
+use Rattle.std.specs.Prelude.{max, min, nat_eq, nat_lt, codes}
 use Rattle.std.proofs.lemmas.Bool.{cases_eq, cond_both}
 use Rattle.std.proofs.lemmas.Bool.Decides.{nat_tests}
 use Rattle.std.proofs.lemmas.List.{append-nil}
@@ -10,7 +10,7 @@ use Rattle.flash_machine.specs.Cache.{Cache}
 use Rattle.flash_core.specs.Store.{Desk, Call}
 use Rattle.flash_core.specs.Calls.{clock_call}
 use Rattle.flash_trace.specs.declared.command.Command.{Command}
-use Rattle.flash_trace.specs.Answers.{asks_of, bytes_for, bytes_in_turns, bytes_to, is_turn, IsRight, EveryPlayIsRight}
+use Rattle.flash_trace.specs.Answers.{asks_of, bytes_for, bytes_in_turns, bytes_to, is_turn, moment_after, moment_with, IsRight, EveryPlayIsRight}
 use Rattle.flash_trace.specs.Commands.{commands_of}
 use Rattle.flash_trace.specs.Playing.{Seat, StoreState, Play, first_play, after_call, act_all, seat_at, with_seat, with_line, fed, say, behind_turn, run, clock, play_step, play_from, play_of}
 use Rattle.flash_trace.specs.Seats.{IsNumbered}
@@ -18,6 +18,7 @@ use Rattle.flash_trace.specs.Steps.{Step, Clock, Say, Run, IsSession, IsSeated, 
 use Rattle.flash_trace.proofs.Acted.{IsKept, clock_kept, Serves, act_all_serves, act_all_serves_other, act_all_reader, act_all_waiting}
 use Rattle.flash_trace.proofs.InMemory.{first_here}
 use Rattle.flash_trace.proofs.InTurns.{turned_behind, turned_from_first}
+use Rattle.flash_trace.proofs.Moments.{act_all_moment, clock_moment}
 use Rattle.flash_trace.proofs.Numbered.{step_numbered, first_numbered}
 use Rattle.flash_trace.proofs.Seating.{seat_is, seat_same, seat_other, kept_clock, seats_clock, step_seats, nobody}
 use Rattle.flash_trace.proofs.Served.{KeepsTo, served_behind}
@@ -25,8 +26,9 @@ use Rattle.flash_trace.proofs.UpTo.{IsUpTo, given_none, fed_up, closed_up, first
 
 -- whatever was played: the store is kept, and each session is up to the bytes that it was given, and to those of its
 -- last turn
-pub record Holds (g : Geometry) (p : Play) (given turned : ℕ → List ℕ) : Type 0 where
+pub record Holds (g : Geometry) (p : Play) (now : ℕ) (given turned : ℕ → List ℕ) : Type 0 where
   pub kept : IsKept g p.kept
+  pub moment : p.kept.cache.now ≡ now
   pub sixteen : length p.seats ≡ 16
   pub numbered : IsNumbered p
   pub each : (session : ℕ) → IsSession session → IsUpTo g session (given session) (turned session) p.kept.journal (seat_at p session)
@@ -59,9 +61,9 @@ module _ (g : Geometry) where
       cond_both (nat_lt c.now _) _ _ (λ (call : Call _). KeepsTo pass asks call.entries) (λ rises. ((λ step is. absurd (cc is)), tt)) (λ stays. tt)
 
   -- so a reading leaves each session up to its bytes
-  clock_each : (p : Play) (line reading : ℕ) (given turned : ℕ → List ℕ) → Holds g p given turned → (session : ℕ) → IsSession session
+  clock_each : (p : Play) (line reading : ℕ) (now : ℕ) (given turned : ℕ → List ℕ) → Holds g p now given turned → (session : ℕ) → IsSession session
       → IsUpTo g session (given session) (turned session) (clock p line reading).kept.journal (seat_at (clock p line reading) session)
-  clock_each p line reading given turned was session is =
+  clock_each p line reading now given turned was session is =
       let up = was.each session is in
       let seat = seat_at p session in
       let call = clock_call p.kept.cache p.kept.desk reading in
@@ -77,16 +79,18 @@ module _ (g : Geometry) where
       (subst (IsUpTo g session (given session) (turned session) (after_call p.kept call).journal) there after)
 
   -- a reading of the clock
-  clock_holds : (p : Play) (line reading : ℕ) (given turned : ℕ → List ℕ) → Holds g p given turned → Holds g (clock p line reading) (λ session. given session ++ []) turned
-  clock_holds p line reading given turned was = record {
+  clock_holds : (p : Play) (line reading now : ℕ) (given turned : ℕ → List ℕ) → Holds g p now given turned
+      → Holds g (clock p line reading) (max now (min reading (2 ^ 62))) (λ session. given session ++ []) turned
+  clock_holds p line reading now given turned was = record {
+    moment = ap (λ (k : StoreState). k.cache.now) (kept_clock p line reading) ∙ clock_moment p.kept.cache p.kept.desk reading ∙ ap (λ n. max n (min reading (2 ^ 62))) was.moment;
     kept = subst (IsKept g) (sym (kept_clock p line reading)) (clock_kept g p.kept reading was.kept);
     sixteen = step_seats g p line (Clock reading) was.sixteen;
     numbered = step_numbered g p line (Clock reading) was.sixteen tt was.numbered;
-    each = λ session is. given_none g session (given session) [] (turned session) (clock p line reading).kept.journal (seat_at (clock p line reading) session) refl (clock_each p line reading given turned was session is);
+    each = λ session is. given_none g session (given session) [] (turned session) (clock p line reading).kept.journal (seat_at (clock p line reading) session) refl (clock_each p line reading now given turned was session is);
   }
 
   -- bytes for a session
-  module _ (p : Play) (line session : ℕ) (bytes : List ℕ) (given turned : ℕ → List ℕ) (was : Holds g p given turned) (is : IsSession session) where
+  module _ (p : Play) (line session : ℕ) (bytes : List ℕ) (now : ℕ) (given turned : ℕ → List ℕ) (was : Holds g p now given turned) (is : IsSession session) where
     -- what each session was given with them
     abbrev after_say : ℕ → List ℕ
     after_say other = given other ++ bytes_for other (Say session bytes)
@@ -119,8 +123,9 @@ module _ (g : Geometry) where
         let seat = seat_at p session in
         each_with p reads session (fed g seat bytes) after_say turned was.sixteen is refl (say_own (fed g seat bytes) (fed_up g session (given session) bytes (turned session) p.kept.journal seat is_open (was.each session is))) say_others
 
-    say_holds : Holds g (say g p line session bytes) after_say turned
+    say_holds : Holds g (say g p line session bytes) now after_say turned
     say_holds = record {
+      moment = cond_both (seat_at p session).closed closed reads (λ q. q.kept.cache.now ≡ now) (λ is_closed. was.moment) (λ more. was.moment);
       kept = cond_both (seat_at p session).closed closed reads (λ q. IsKept g q.kept) (λ is_closed. was.kept) (λ more. was.kept);
       sixteen = step_seats g p line (Say session bytes) was.sixteen;
       numbered = step_numbered g p line (Say session bytes) was.sixteen is was.numbered;
@@ -130,7 +135,7 @@ module _ (g : Geometry) where
     }
 
   -- a session's turn
-  module _ (p : Play) (line session : ℕ) (given turned : ℕ → List ℕ) (was : Holds g p given turned) (is : IsSession session) where
+  module _ (p : Play) (line session now : ℕ) (given turned : ℕ → List ℕ) (was : Holds g p now given turned) (is : IsSession session) where
     abbrev before : StoreState × Seat
     before = (p.kept, record (seat_at p session) { waiting = [] })
 
@@ -178,8 +183,9 @@ module _ (g : Geometry) where
           ended = up.ended;
         }
 
-    run_holds : Holds g (run g p session) (λ other. given other ++ []) after_turn
+    run_holds : Holds g (run g p session) now (λ other. given other ++ []) after_turn
     run_holds = record {
+      moment = act_all_moment g session before (seat_at p session).waiting ∙ was.moment;
       kept = run_serves.kept;
       sixteen = step_seats g p line (Run session) was.sixteen;
       numbered = step_numbered g p line (Run session) was.sixteen is was.numbered;
@@ -188,25 +194,26 @@ module _ (g : Geometry) where
     }
 
   -- each step keeps all of it
-  step_holds : (p : Play) (line : ℕ) (step : Step) (given turned : ℕ → List ℕ) → IsSeated step → Holds g p given turned
-      → Holds g (play_step g p line step) (λ session. given session ++ bytes_for session step) (λ session. if is_turn session step then given session else turned session)
-  step_holds p line (Clock reading) given turned seated was = clock_holds p line reading given turned was
-  step_holds p line (Say session bytes) given turned seated was = say_holds p line session bytes given turned was seated
-  step_holds p line (Run session) given turned seated was = run_holds p line session given turned was seated
+  step_holds : (p : Play) (line : ℕ) (step : Step) (now : ℕ) (given turned : ℕ → List ℕ) → IsSeated step → Holds g p now given turned
+      → Holds g (play_step g p line step) (moment_with now step) (λ session. given session ++ bytes_for session step) (λ session. if is_turn session step then given session else turned session)
+  step_holds p line (Clock reading) now given turned seated was = clock_holds p line reading now given turned was
+  step_holds p line (Say session bytes) now given turned seated was = say_holds p line session bytes now given turned was seated
+  step_holds p line (Run session) now given turned seated was = run_holds p line session now given turned was seated
 
   -- and so do all steps
-  steps_hold : (p : Play) (line : ℕ) (steps : List Step) (given turned : ℕ → List ℕ) → AreSeated steps → Holds g p given turned
-      → Holds g (play_from g p line steps) (λ session. given session ++ bytes_to session steps) (λ session. turned_behind session (given session) (turned session) steps)
-  steps_hold p line [] given turned seated was = subst (λ (given : ℕ → List ℕ). Holds g p given turned) (λ j session. sym (append-nil (given session)) j) was
-  steps_hold p line (step ∷ steps) given turned seated was =
+  steps_hold : (p : Play) (line : ℕ) (steps : List Step) (now : ℕ) (given turned : ℕ → List ℕ) → AreSeated steps → Holds g p now given turned
+      → Holds g (play_from g p line steps) (moment_after now steps) (λ session. given session ++ bytes_to session steps) (λ session. turned_behind session (given session) (turned session) steps)
+  steps_hold p line [] now given turned seated was = subst (λ (given : ℕ → List ℕ). Holds g p now given turned) (λ j session. sym (append-nil (given session)) j) was
+  steps_hold p line (step ∷ steps) now given turned seated was =
       let more = λ (session : ℕ). if is_turn session step then given session else turned session in
-      let after = steps_hold (play_step g p line step) (line + 1) steps (λ session. given session ++ bytes_for session step) more seated.1 (step_holds p line step given turned seated.0 was) in
+      let after = steps_hold (play_step g p line step) (line + 1) steps (moment_with now step) (λ session. given session ++ bytes_for session step) more seated.1 (step_holds p line step now given turned seated.0 was) in
       let behind = λ (session : ℕ). turned_behind session (given session) (turned session) (step ∷ steps) in
-      subst (λ (all : ℕ → List ℕ). Holds g (play_from g p line (step ∷ steps)) all behind) (λ j session. append_assoc (given session) (bytes_for session step) (bytes_to session steps) j) after
+      subst (λ (all : ℕ → List ℕ). Holds g (play_from g p line (step ∷ steps)) (moment_after now (step ∷ steps)) all behind) (λ j session. append_assoc (given session) (bytes_for session step) (bytes_to session steps) j) after
 
   -- before the first step
-  first_holds : Holds g first_play (λ session. []) (λ session. [])
+  first_holds : Holds g first_play 0 (λ session. []) (λ session. [])
   first_holds = record {
+    moment = refl;
     kept = record { run = record { legal = tt; same = refl }; here = first_here };
     sixteen = refl;
     numbered = first_numbered;
@@ -216,8 +223,9 @@ module _ (g : Geometry) where
   -- a script whose steps have a session each
   is_right : (steps : List Step) → AreSeated steps → IsRight g steps
   is_right steps seated =
-      let all = steps_hold first_play 2 steps (λ session. []) (λ session. []) seated first_holds in record {
+      let all = steps_hold first_play 2 steps 0 (λ session. []) (λ session. []) seated first_holds in record {
         legal = all.kept.run.legal;
+        moment = ap (λ (c : Cache). c.now) (sym all.kept.run.same) ∙ all.moment;
         answered = λ session is.
             let journal = (play_of g steps).kept.journal in
             let seat = seat_at (play_of g steps) session in

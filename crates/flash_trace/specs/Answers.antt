@@ -1,5 +1,5 @@
 -- The replies to a session's commands, read off the journal.
-use Rattle.std.specs.Prelude.{◌≡◌, ℕ, ◌+◌, ◌-◌, ◌≤◌, Bool, true, false, ◌&&◌, nat_eq, List, [], ◌∷◌, ◌++◌, length, slice_get, Option, None, Some, IsSome, IsTrue, if◌then◌else◌}
+use Rattle.std.specs.Prelude.{◌≡◌, ℕ, ◌+◌, ◌-◌, ◌^◌, ◌≤◌, max, min, Bool, true, false, ◌&&◌, nat_eq, List, [], ◌∷◌, ◌++◌, length, slice_get, Option, None, Some, IsSome, IsTrue, if◌then◌else◌}
 use Rattle.std.specs.List.{concat, filter_map, list_any, AllByRecursion}
 use Rattle.std.specs.Option.{ForSome}
 use Rattle.flash_names.specs.declared.place.Id.{Id}
@@ -19,13 +19,13 @@ use Rattle.flash_machine.specs.Cache.{Cache, first_cache}
 use Rattle.flash_machine.specs.Live.{live_item}
 use Rattle.flash_machine.specs.Looking.{head_of_item}
 use Rattle.flash_machine.specs.Legal.{Legal}
-use Rattle.flash_machine.specs.Steps.{next}
+use Rattle.flash_machine.specs.Steps.{next, cache_of}
 use Rattle.flash_trace.specs.declared.command.Command.{Command}
 use Rattle.flash_trace.specs.declared.command.Command.TheVariants.{Get, Store, Refused}
 use Rattle.flash_trace.specs.Commands.{commands_of, has_ended}
 use Rattle.flash_trace.specs.Playing.{Seat, seat_at, play_of}
 use Rattle.flash_trace.specs.Replies.{step_text, plain_text}
-use Rattle.flash_trace.specs.Steps.{Step, Say, Run, IsSession, AreSeated}
+use Rattle.flash_trace.specs.Steps.{Step, Clock, Say, Run, IsSession, AreSeated}
 
 abbrev pub same_id : Id → Id → Bool
 same_id a b = nat_eq a.pass b.pass && nat_eq a.seq b.seq
@@ -153,9 +153,20 @@ pub record IsAnswered (g : Geometry) (session : ℕ) (bytes turns : List ℕ) (j
   pub keeps : Keeps (commands_of g.item_max turns).0 session journal
   pub ended : IsTrue seat.closed → IsTrue (has_ended seat.reader)
 
--- every script's journal is a run of the one-thread cache, and each of its sessions is answered
+-- the moment of a store after steps: the greatest reading of the clock, which counts up to 2^62
+abbrev pub moment_with : ℕ → Step → ℕ
+moment_with now (Clock reading) = max now (min reading (2 ^ 62))
+moment_with now _ = now
+
+abbrev pub moment_after : ℕ → List Step → ℕ
+moment_after now [] = now
+moment_after now (step ∷ steps) = moment_after (moment_with now step) steps
+
+-- every script's journal is a run of the one-thread cache, at the moment that its readings of the clock make, and each
+-- of its sessions is answered
 pub record IsRight (g : Geometry) (steps : List Step) : Type 0 where
   pub legal : Legal g (play_of g steps).kept.journal
+  pub moment : (cache_of g (play_of g steps).kept.journal).now ≡ moment_after 0 steps
   pub answered : (session : ℕ) → IsSession session → IsAnswered g session (bytes_to session steps) (bytes_in_turns session steps) (play_of g steps).kept.journal (seat_at (play_of g steps) session)
 
 abbrev pub EveryPlayIsRight : Type 0
