@@ -5,6 +5,7 @@ mod Asked
 mod Ending
 mod Feeding
 mod Feeds
+mod Fronts
 mod Going
 mod GoingOn
 mod InMemory

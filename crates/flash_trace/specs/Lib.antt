@@ -4,6 +4,7 @@ pub mod CommandLine
 pub mod Commands
 pub mod Ends
 pub mod Examples
+pub mod Fronts
 pub mod Lines
 pub mod Output
 pub mod Playing

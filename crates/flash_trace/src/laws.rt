@@ -1,6 +1,7 @@
 // Laws over every script. Each function has no body: its contract is the law.
 ghost use Rattle.flash_trace.specs.Answers.{EveryPlayIsRight};
 ghost use Rattle.flash_trace.specs.Ends.{EveryTraceIsRight};
+ghost use Rattle.flash_trace.specs.Fronts.{EachFrontMakesAFront};
 ghost use Rattle.flash_trace.specs.ScriptLaws.{AreReadOrBad, IsReadByLines, IsFirstBadLine, HasSeats};
 
 /// Bytes are read as a script, and in one way, exactly where no line of theirs is bad.
@@ -28,6 +29,12 @@ pub fn each_session_has_a_seat()
 /// and the journal say.
 pub fn every_play_is_right()
     ensures { EveryPlayIsRight }
+{}
+
+/// The steps in front of a script make a journal that the whole script's goes on from: what a turn did is not changed
+/// by what comes behind it.
+pub fn each_front_makes_a_front()
+    ensures { EachFrontMakesAFront }
 {}
 
 /// Every script without a bad line makes such a run.
