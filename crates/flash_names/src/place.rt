@@ -1,3 +1,6 @@
+ghost use Rattle.std.specs.Prelude.{◌≡◌};
+ghost use Rattle.flash_names.specs.Labels.{same_label};
+
 /// A page of the flash file together with the version that it was opened with. No two pages that were
 /// opened have the same label.
 #[derive(Clone, Copy, Debug, PartialEq, Eq)]
@@ -6,6 +9,15 @@ pub struct Label {
     pub page: u32,
     /// The page's version, counted from 1 over all pages.
     pub version: u64,
+}
+
+impl Label {
+    /// Whether the other is the same page with the same version.
+    pub fn is_same(self, other: Label) -> bool
+        ensures { result ≡ same_label self other }
+    {
+        self.page == other.page && self.version == other.version
+    }
 }
 
 /// A range of bytes of a labelled page.
