@@ -1,12 +1,12 @@
 -- Where bytes are cut, and the words of a line that is cut at its first space.
-use Rattle.std.proofs.Common.{◌≡◌, ℕ, zero, suc, ◌+◌, ◌<◌, ◌≤◌, Bool, true, false, ◌==◌, List, [], ◌∷◌, take, drop, get_or, length, Option, None, Some, refl, sym, ◌∙◌, ap, inl, inr, arith, add-one, ◌-◌, length-drop, if◌then◌else◌}
+use Rattle.std.proofs.Common.{◌≡◌, ℕ, zero, suc, ◌+◌, ◌<◌, Bool, true, false, ◌==◌, List, [], ◌∷◌, take, drop, length, Option, None, Some, refl, sym, ◌∙◌, ap, inl, inr, arith, add-one, ◌-◌, length-drop, if◌then◌else◌}
 use Rattle.std.proofs.lemmas.Bool.{cases_eq}
 use Rattle.std.proofs.lemmas.Bool.Decides.{nat_tests}
 use Rattle.std.proofs.lemmas.List.{take_all}
 use Rattle.std.specs.Option.{option_map}
-use Rattle.memchr.specs.Find.{IsFirstByte, is_byte, Nowhere, Passes}
+use Rattle.memchr.specs.Find.{is_byte, Nowhere, Passes}
 use Rattle.flash_names.specs.Cut.{cut_at}
-use Rattle.flash_names.specs.Words.{words, words_if, in_first}
+use Rattle.flash_names.specs.Words.{words, in_first}
 
 -- a first byte that is another
 cut_past : (c b : ℕ) (bytes : List ℕ) → (b == c) ≡ false → cut_at c (b ∷ bytes) ≡ option_map (λ parts. (b ∷ parts.0, parts.1)) (cut_at c bytes)

@@ -1,5 +1,5 @@
--- What the ten rules say where none is broken.
-use Rattle.std.proofs.Common.{◌≡◌, ℕ, ◌+◌, ◌%◌, ◌≤◌, Bool, true, false, ◌&&◌, nat_le, List, [], ◌∷◌, None, refl, arith}
+-- What the ten rules say where none is broken, and that none is where they hold.
+use Rattle.std.proofs.Common.{◌≡◌, ℕ, ◌+◌, ◌%◌, ◌≤◌, Bool, true, false, ◌&&◌, nat_eq, nat_le, List, [], ◌∷◌, None, refl, arith}
 use Rattle.std.proofs.lemmas.Bool.Decides.{nat_tests}
 use Rattle.flash_names.specs.declared.geometry.Geometry.{Geometry}
 use Rattle.flash_names.specs.Geometry.{rules_of, first_broken, whole_blocks, Passes}
@@ -45,3 +45,56 @@ all_kept g none =
       drop_under = kept_le _ _ kept.1.1.1.1.1.1.1.1.0;
       max_frag = kept_le _ _ kept.1.1.1.1.1.1.1.1.1.0;
     }
+
+none_broken : (n : ℕ) (rules : List Bool) → AllTrue rules → first_broken n rules ≡ None
+unfolding AllTrue
+none_broken n [] kept = refl
+none_broken n (true ∷ rest) kept = none_broken (n + 1) rest kept.1
+none_broken n (false ∷ rest) kept = absurd (cc kept.0)
+
+le_kept : (a b : ℕ) → a ≤ b → nat_le a b ≡ true
+le_kept a b le = grind (arith, nat_tests)
+
+both_kept : (a b : Bool) → a ≡ true → b ≡ true → a && b ≡ true
+both_kept true b one other = other
+both_kept false b one other = absurd (cc one)
+
+between_kept : (a b c d : ℕ) → (a ≤ b) × (c ≤ d) → (nat_le a b && nat_le c d) ≡ true
+between_kept a b c d parts = both_kept (nat_le a b) (nat_le c d) (le_kept a b parts.0) (le_kept c d parts.1)
+
+blocks_kept : (page_size buffer_size : ℕ) → 1 ≤ buffer_size → (page_size % buffer_size ≡ 0) × (buffer_size ≤ page_size) × (page_size ≤ 67108864) → whole_blocks page_size buffer_size ≡ true
+blocks_kept page_size buffer_size some parts =
+    let whole : nat_eq (page_size % buffer_size) 0 ≡ true = rw parts.0 refl in
+    both_kept _ _ (both_kept _ _ (both_kept _ _ (le_kept _ _ some) whole) (le_kept _ _ parts.1)) (le_kept _ _ parts.2)
+
+pub kept_all : (g : Geometry) → Passes g → first_broken 1 (rules_of g) ≡ None
+unfolding rules_of AllTrue
+kept_all g passes =
+    none_broken 1 (rules_of g) (
+      le_kept _ _ passes.item_size,
+      (
+        between_kept _ _ _ _ passes.buffer_size,
+        (
+          blocks_kept _ _ (omega (arith, passes.buffer_size.0)) passes.page_size,
+          (
+            between_kept _ _ _ _ passes.pages,
+            (
+              between_kept _ _ _ _ passes.buffers,
+              (
+                between_kept _ _ _ _ passes.item_max,
+                (
+                  le_kept _ _ passes.memory,
+                  (
+                    le_kept _ _ passes.compact_under,
+                    (
+                      le_kept _ _ passes.drop_under,
+                      (le_kept _ _ passes.max_frag, tt),
+                    ),
+                  ),
+                ),
+              ),
+            ),
+          ),
+        ),
+      ),
+    )

@@ -1,7 +1,7 @@
 ghost use Rattle.std.specs.Prelude.{◌≡◌, ◌<◌, ◌≤◌, length, None, IfOk};
 ghost use Rattle.std.specs.Io.KnownBytes.{ReadConsumes, WriteAppends};
 ghost use Rattle.flash_names.specs.Faults.{Counts};
-ghost use Rattle.flash_names.specs.Adapters.{reader_of, writer_of};
+ghost use Rattle.flash_names.specs.Adapters.{reader_of, source_faults_of, writer_of, sink_faults_of};
 
 use crate::{Sink, SinkFault, Source, SourceFault};
 use std::io::{Read, Write};
@@ -14,9 +14,10 @@ pub struct ReaderSource<R> {
 }
 
 impl<R> ReaderSource<R> {
-    /// The source over this reader.
+    /// The source over this reader. It has counted no fault.
     pub fn new(reader: R) -> ReaderSource<R>
-        ensures { reader_of result ≡ reader }
+        ensures same { reader_of result ≡ reader }
+        ensures none { source_faults_of result ≡ 0 }
     {
         ReaderSource { reader, faults: 0 }
     }
@@ -25,13 +26,13 @@ impl<R> ReaderSource<R> {
 impl<R: Read> Source for ReaderSource<R> {
     ghost left = { λ _. None };
 
-    ghost faults = { λ s. s.faults };
+    ghost faults = { source_faults_of };
 
     fn read(&mut self, into: &mut [u8]) -> Result<usize, SourceFault>
         ensures bound { IfOk result (λ n. n ≤ length into.old) }
-        ensures counts { Counts self.old.faults self.new.faults result }
+        ensures counts { Counts (source_faults_of self.old) (source_faults_of self.new) result }
 
-        // What the reader gave is passed on.
+        // The reader lost what it gave, and nothing by a read that failed.
         ensures passed_on { ReadConsumes (R.remaining (reader_of self.old)) (R.remaining (reader_of self.new)) result into.new }
     {
         match self.reader.read(into) {
@@ -52,9 +53,10 @@ pub struct WriterSink<W> {
 }
 
 impl<W> WriterSink<W> {
-    /// The sink over this writer.
+    /// The sink over this writer. It has counted no fault.
     pub fn new(writer: W) -> WriterSink<W>
-        ensures { writer_of result ≡ writer }
+        ensures same { writer_of result ≡ writer }
+        ensures none { sink_faults_of result ≡ 0 }
     {
         WriterSink { writer, faults: 0 }
     }
@@ -63,12 +65,12 @@ impl<W> WriterSink<W> {
 impl<W: Write> Sink for WriterSink<W> {
     ghost held = { λ _. None };
 
-    ghost faults = { λ s. s.faults };
+    ghost faults = { sink_faults_of };
 
     fn write(&mut self, bytes: &[u8]) -> Result<usize, SinkFault>
         ensures bound { IfOk result (λ n. n ≤ length bytes.now) }
         ensures progress { IfOk result (λ n. 0 < length bytes.now → 0 < n) }
-        ensures counts { Counts self.old.faults self.new.faults result }
+        ensures counts { Counts (sink_faults_of self.old) (sink_faults_of self.new) result }
 
         // The writer got what it took, and nothing of a write that failed.
         ensures passed_on { WriteAppends (W.contents (writer_of self.old)) (W.contents (writer_of self.new)) result bytes.now }

@@ -1,4 +1,4 @@
-ghost use Rattle.std.specs.Prelude.{◌≡◌, ◌*◌, ◌<◌, ◌&&◌, length, nat_le, OnOk};
+ghost use Rattle.std.specs.Prelude.{◌≡◌, ◌*◌, ◌<◌, ◌&&◌, length, nat_le, ◌↔◌, IsOk};
 ghost use Rattle.flash_names.specs.Geometry.{checked, first_broken, rules_of, whole_blocks, Passes};
 
 /// The sizes of a store, as line 1 of a script and the options of the server give them.
@@ -39,7 +39,7 @@ impl Geometry {
     /// Tests the ten rules of a geometry in their order, and names the first that is broken.
     pub fn check(&self) -> Result<(), BadGeometry>
         ensures exact { result ≡ checked self.now }
-        ensures passes { OnOk result (Passes self.now) }
+        ensures passes { IsOk result ↔ Passes self.now }
     {
         match first_broken_of(&self.kept_rules()) {
             None => Ok(()),

@@ -1,4 +1,4 @@
-ghost use Rattle.std.specs.Prelude.{◌≡◌, ℕ, ◌<◌, ◌≤◌, [], ◌++◌, Some, Ok, List, length, take, IfOk, OnOk, OnErr, IsTrue};
+ghost use Rattle.std.specs.Prelude.{◌≡◌, ◌<◌, ◌≤◌, [], Some, Ok, length, take, IfOk, OnOk, OnErr, IsTrue, if◌then◌else◌};
 ghost use Rattle.flash_names.specs.Told.{behind};
 ghost use Rattle.flash_names.specs.Faults.{Counts};
 ghost use Rattle.flash_names.specs.FaultPlan.{fails_next, after_call, with_fault};
@@ -54,6 +54,10 @@ impl Sink for MemorySink {
         ensures planned { IsTrue (fails_next (plan_of self.old)) → OnOk result ⊥ }
         ensures whole { IfOk result (λ n. n ≡ length bytes.now) }
         ensures plan { OnOk result (plan_of self.new ≡ after_call (plan_of self.old)) }
+
+        // A call of its plan counts one fault, and so does one for which memory ran out.
+        ensures failed_plan { OnErr result (plan_of self.new ≡ (if fails_next (plan_of self.old) then after_call (plan_of self.old)
+            else with_fault (after_call (plan_of self.old)))) }
     {
         if self.plan.next_fails() {
             return Err(SinkFault);

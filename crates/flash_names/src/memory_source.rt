@@ -1,4 +1,4 @@
-ghost use Rattle.std.specs.Prelude.{◌≡◌, ℕ, ◌<◌, ◌≤◌, Some, Ok, Err, List, length, take, drop, min, ◌-◌, IfOk, OnErr, if◌then◌else◌};
+ghost use Rattle.std.specs.Prelude.{◌≡◌, ◌<◌, ◌≤◌, Some, Ok, Err, length, take, min, ◌-◌, IfOk, OnErr, if◌then◌else◌};
 ghost use Rattle.flash_names.specs.Told.{in_front};
 ghost use Rattle.flash_names.specs.Faults.{Counts};
 ghost use Rattle.flash_names.specs.Source.{IsAtEnd};

@@ -1,4 +1,4 @@
-ghost use Rattle.std.specs.Prelude.{◌≡◌, ℕ, ◌<◌, ◌≤◌, List, [], length, take, Option, None, IfOk, OnErr};
+ghost use Rattle.std.specs.Prelude.{◌≡◌, ℕ, ◌<◌, ◌≤◌, List, length, take, Option, IfOk, OnErr};
 ghost use Rattle.flash_names.specs.Told.{in_front};
 ghost use Rattle.flash_names.specs.Faults.{Counts};
 ghost use Rattle.flash_names.specs.Source.{IsAtEnd};

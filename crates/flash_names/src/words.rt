@@ -1,5 +1,5 @@
 ghost use Rattle.std.specs.Prelude.{◌≡◌, ◌+◌, ◌^◌, [], ◌∷◌, length, IfSome};
-ghost use Rattle.std.specs.Option.{option_copied, option_map};
+ghost use Rattle.std.specs.Option.{option_map};
 ghost use Rattle.flash_names.specs.Cut.{cut_at};
 ghost use Rattle.flash_names.specs.Words.{words, words_if};
 ghost use Rattle.flash_names.specs.Numbers.{number_of, value_from, if_below};
