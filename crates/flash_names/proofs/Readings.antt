@@ -2,11 +2,8 @@
 use Rattle.std.proofs.Common.{◌≡◌, ℕ, suc, ◌+◌, ◌-◌, ◌^◌, ◌<◌, min, inl, inr, Bool, true, false, List, Option, Some, None, nat_lt, if◌then◌else◌, refl, arith}
 use Rattle.std.proofs.lemmas.Bool.{ltb-true, lt-ltb}
 use Rattle.flash_names.specs.Clock.{Reads, readings, reading_at}
+use Rattle.flash_names.specs.ListClock.{told_after}
 use Rattle.flash_names.specs.Faults.{next_count}
-
--- what is told after so many calls
-abbrev pub told_after : List ℕ → ℕ → Option (List ℕ)
-told_after numbers calls = if nat_lt calls (2 ^ 64 - 1) then Some (readings numbers calls) else None
 
 abbrev next_of : ℕ → List ℕ → ℕ → Bool → Type 0
 next_of limit numbers calls still = Reads (if nat_lt calls limit then Some (readings numbers calls) else None) (reading_at numbers calls) (if still then Some (readings numbers (min (calls + 1) limit)) else None)

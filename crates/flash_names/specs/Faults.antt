@@ -1,7 +1,7 @@
 -- The counts of faults, which never fall.
 use Rattle.std.specs.Prelude.{ℕ, ◌+◌, ◌-◌, ◌^◌, ◌≤◌, min, Result, OnErr}
 
--- The count rose by one at least. One that stands at its type's end counts as risen.
+-- the count rose by one at least; one that stands at its type's end, 2^64 - 1, counts as risen
 abbrev pub Rose : ℕ → ℕ → Type 0
 Rose before now = min (before + 1) (2 ^ 64 - 1) ≤ now
 
@@ -10,6 +10,6 @@ pub record Counts {T E : Type 0} (before now : ℕ) (result : Result T E) : Type
   pub kept : before ≤ now
   pub cause : OnErr result (Rose before now)
 
--- the count after one fault more
+-- a count after one more, up to 2^64 - 1
 abbrev pub next_count : ℕ → ℕ
 next_count n = min (n + 1) (2 ^ 64 - 1)

@@ -3,7 +3,7 @@ use Rattle.std.specs.Prelude.{◌≡◌, ℕ, ◌+◌, ◌*◌, ◌%◌, ◌≤�
 use Rattle.flash_names.specs.declared.geometry.Geometry.{Geometry}
 use Rattle.flash_names.specs.declared.geometry.BadGeometry.{BadGeometry}
 
--- a page is one whole block of the buffer's size or more, and not above 64 MiB
+-- a page is whole blocks of the buffer's size, one at least, and not above 64 MiB
 abbrev pub whole_blocks : ℕ → ℕ → Bool
 whole_blocks page_size buffer_size =
     nat_le 1 buffer_size && nat_eq (page_size % buffer_size) 0 && nat_le buffer_size page_size && nat_le page_size 67108864

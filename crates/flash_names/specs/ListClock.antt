@@ -11,6 +11,10 @@ numbers_of clock = clock.numbers.items
 abbrev pub calls_of : ListClock → ℕ
 calls_of clock = clock.calls
 
+-- what a clock over these numbers tells after so many calls: its readings, and nothing once its count has stopped
+abbrev pub told_after : List ℕ → ℕ → Option (List ℕ)
+told_after numbers calls = if nat_lt calls (2 ^ 64 - 1) then Some (readings numbers calls) else None
+
 -- what it has given, where it tells
 abbrev pub given_by : ListClock → Option (List ℕ)
-given_by clock = if nat_lt (calls_of clock) (2 ^ 64 - 1) then Some (readings (numbers_of clock) (calls_of clock)) else None
+given_by clock = told_after (numbers_of clock) (calls_of clock)

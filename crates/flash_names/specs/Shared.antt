@@ -1,4 +1,4 @@
--- A story that only grows, and things that belong to numbers.
+-- A story that only grows, and the things that belong to the passes of a lock, each beside its pass's number.
 use Rattle.std.specs.Prelude.{ℕ, ◌==◌, not, List, map, filter, Option, Some, None, length, nat_lt, if◌then◌else◌}
 use mathlib.Core.List.{IsPrefix}
 
@@ -9,7 +9,7 @@ Begins None (Some later) = ⊥
 Begins (Some earlier) None = ⊥
 Begins (Some earlier) (Some later) = IsPrefix earlier later
 
--- how long a story is that is told
+-- how long a story is, 0 where it isn't told
 abbrev pub told_length : {E : Type 0} → Option (List E) → ℕ
 told_length None = 0
 told_length (Some entries) = length entries
@@ -18,10 +18,10 @@ told_length (Some entries) = length entries
 abbrev pub longer : {E : Type 0} → Option (List E) → Option (List E) → Option (List E)
 longer a b = if nat_lt (told_length a) (told_length b) then b else a
 
--- the things of the number n, in order
+-- the things of the pass n, in order
 abbrev pub own_of : {O : Type 0} → ℕ → List (ℕ × O) → List O
 own_of n own = map (λ p. p.1) (filter (λ p. p.0 == n) own)
 
--- the pairs of every other number, in order
+-- the pairs of every other pass, in order
 abbrev pub without : {O : Type 0} → ℕ → List (ℕ × O) → List (ℕ × O)
 without n own = filter (λ p. not (p.0 == n)) own

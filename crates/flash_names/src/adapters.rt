@@ -6,7 +6,7 @@ ghost use Rattle.flash_names.specs.Adapters.{reader_of, source_faults_of, writer
 use crate::{Sink, SinkFault, Source, SourceFault};
 use std::io::{Read, Write};
 
-/// A source over a reader of `std`. It tells nothing of what is left.
+/// A source over a reader of `std`. It tells nothing of what is left. A read that the reader fails is a fault.
 #[derive(Debug, Drop)]
 pub struct ReaderSource<R> {
     reader: R,
@@ -45,7 +45,8 @@ impl<R: Read> Source for ReaderSource<R> {
     }
 }
 
-/// A sink over a writer of `std`. It tells nothing of what it holds.
+/// A sink over a writer of `std`. It tells nothing of what it holds. A write that the writer fails is a fault,
+/// and so is one in which it takes nothing of a piece that isn't empty.
 #[derive(Debug, Drop)]
 pub struct WriterSink<W> {
     writer: W,

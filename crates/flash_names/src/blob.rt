@@ -44,7 +44,8 @@ impl Blob {
         &mut self.bytes
     }
 
-    /// The blob of this range of the bytes, in the same memory.
+    /// The blob of `length` bytes from the byte `start` on, in the same memory. The range has to lie within
+    /// the blob: `start + length` is at most the number of its bytes.
     pub fn cut(self, start: usize, length: usize) -> Blob
         requires { start + length ≤ count self }
         ensures { result ≡ take length (drop start self) }

@@ -1,30 +1,33 @@
 ghost use Rattle.std.specs.Prelude.{◌≡◌, ◌*◌, ◌<◌, ◌&&◌, length, nat_le, ◌↔◌, IsOk};
 ghost use Rattle.flash_names.specs.Geometry.{checked, first_broken, rules_of, whole_blocks, Passes};
 
-/// The sizes of a store, as line 1 of a script and the options of the server give them.
+/// The sizes of a store, as line 1 of a script gives them. `Geometry::check` tests the range that each field
+/// names. The names follow memcached's options: `-m` for the memory, `-I` for the most bytes of an item, and
+/// those of extstore (`ext_item_size`, `ext_page_size`, `ext_wbuf_size`, `ext_compact_under`, `ext_drop_under`,
+/// `ext_max_frag`, `ext_recache_rate`).
 #[derive(Clone, Copy, Debug, PartialEq, Eq)]
 pub struct Geometry {
-    /// The load in bytes above which items are evicted.
+    /// The load in bytes above which items are evicted. From twice `item_max` to 4,294,967,296.
     pub memory: u64,
-    /// The least number of value bytes with which an item moves to flash.
+    /// The least number of value bytes with which an item moves to flash. From 64 on.
     pub item_size: u32,
-    /// The most bytes of a value.
+    /// The most bytes of a value. Up to 1,047,552.
     pub item_max: u32,
-    /// The number of pages of the flash file.
+    /// The number of pages of the flash file. From 3 to 4,096.
     pub pages: u32,
-    /// The bytes of a page.
+    /// The bytes of a page. A multiple of `buffer_size`, from that number itself to 67,108,864.
     pub page_size: u32,
-    /// The bytes of a write buffer, which are those of a block of a page.
+    /// The bytes of a write buffer, which are those of a block of a page. From 64 to 4,194,304.
     pub buffer_size: u32,
-    /// The number of write buffers.
+    /// The number of write buffers. From 3 to 64.
     pub buffers: u32,
-    /// Pages are compacted where at most so many are free.
+    /// Pages are compacted where at most so many are free. Up to `pages`.
     pub compact_under: u32,
-    /// Pages are evicted where at most so many are free.
+    /// Pages are evicted where at most so many are free. Up to `pages`.
     pub drop_under: u32,
-    /// A page is compacted where at most so many percent of it are live.
+    /// A page is compacted where at most so many percent of it are live. Up to 100.
     pub max_frag: u32,
-    /// Each n-th read from flash brings its value back to memory; 0 is never.
+    /// Each n-th read from flash brings its value back to memory; 0 is never. Any number.
     pub recache: u32,
 }
 

@@ -31,7 +31,8 @@ impl MemorySource {
         MemorySource::in_pieces(bytes, usize::MAX, fails)
     }
 
-    /// The same with at most `most` bytes in a call.
+    /// The same with at most `most` bytes in a call. `most` has to be above 0: a call that gave no byte would
+    /// be the end.
     pub fn in_pieces(bytes: Vec<u8>, most: usize, fails: Vec<u32>) -> MemorySource
         requires { 0 < most }
         ensures bytes { bytes_left result ≡ bytes.items }

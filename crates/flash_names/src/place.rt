@@ -31,18 +31,19 @@ pub struct Place {
     pub length: u32,
 }
 
-/// The number of a step: which pass made it, and its number in that pass.
+/// The number of a step: which pass made it, and its number in that pass. A pass is one connection, or one
+/// session of a script; it does one step after the other, and its steps are numbered.
 #[derive(Clone, Copy, Debug, PartialEq, Eq)]
 pub struct Id {
-    /// The pass, counted from 1. Pass 0 is the store's own.
+    /// The pass's number, above 0. Pass 0 is the store's own.
     pub pass: u32,
-    /// The step's number in its pass, counted from 1.
+    /// The step's number. Within a pass the numbers rise from step to step.
     pub seq: u64,
 }
 
-/// The name of an item in the store's slab.
+/// The name of an item in the store's slab, a table whose places are used again.
 #[derive(Clone, Copy, Debug, PartialEq, Eq)]
 pub struct ItemId {
-    /// The slab's key.
+    /// The place's number in the slab.
     pub key: usize,
 }

@@ -44,141 +44,72 @@ fn takes_the_borders(rt: HostRuntime) {
     assert_eq!(rt; first_broken(&LARGE), None);
 }
 
+fn sized(item_size: u32, buffer_size: u32, page_size: u32) -> Geometry {
+    Geometry {
+        item_size,
+        buffer_size,
+        page_size,
+        ..LARGE
+    }
+}
+
 #[test]
 fn bounds_the_sizes(rt: HostRuntime) {
     let table = [
-        (
-            Geometry {
-                item_size: 63,
-                buffers: 2,
-                ..SMALL
-            },
-            1,
-        ),
-        (
-            Geometry {
-                buffer_size: 63,
-                ..SMALL
-            },
-            2,
-        ),
-        (
-            Geometry {
-                buffer_size: 0,
-                ..SMALL
-            },
-            2,
-        ),
-        (
-            Geometry {
-                buffer_size: 4_194_305,
-                ..LARGE
-            },
-            2,
-        ),
-        (
-            Geometry {
-                page_size: 96,
-                ..SMALL
-            },
-            3,
-        ),
-        (
-            Geometry {
-                page_size: 0,
-                ..SMALL
-            },
-            3,
-        ),
-        (
-            Geometry {
-                page_size: 71_303_168,
-                ..LARGE
-            },
-            3,
-        ),
+        (sized(63, 63, 64), 1),
+        (sized(64, 63, 64), 2),
+        (sized(64, 0, 64), 2),
+        (sized(64, 4_194_305, 67_108_864), 2),
+        (sized(64, 64, 96), 3),
+        (sized(64, 64, 0), 3),
+        (sized(64, 4_194_304, 71_303_168), 3),
     ];
     for (geometry, broken) in table {
         assert_eq!(rt; first_broken(&geometry), Some(broken), "{geometry:?}");
+    }
+}
+
+fn counted(pages: u32, buffers: u32, item_max: u32, memory: u64) -> Geometry {
+    Geometry {
+        pages,
+        buffers,
+        item_max,
+        memory,
+        ..SMALL
     }
 }
 
 #[test]
 fn bounds_the_counts(rt: HostRuntime) {
     let table = [
-        (Geometry { pages: 2, ..SMALL }, 4),
-        (
-            Geometry {
-                pages: 4097,
-                ..LARGE
-            },
-            4,
-        ),
-        (
-            Geometry {
-                buffers: 2,
-                ..SMALL
-            },
-            5,
-        ),
-        (
-            Geometry {
-                buffers: 65,
-                ..LARGE
-            },
-            5,
-        ),
-        (
-            Geometry {
-                item_max: 1025,
-                ..SMALL
-            },
-            6,
-        ),
-        (
-            Geometry {
-                item_max: 1_047_553,
-                ..LARGE
-            },
-            6,
-        ),
-        (
-            Geometry {
-                memory: 4_294_967_297,
-                ..LARGE
-            },
-            7,
-        ),
+        (counted(2, 3, 1024, 2048), 4),
+        (counted(4097, 3, 1024, 2048), 4),
+        (counted(3, 2, 1024, 2048), 5),
+        (counted(3, 65, 1024, 2048), 5),
+        (counted(3, 3, 1025, 2048), 6),
+        (counted(3, 3, 1_047_553, 4_294_967_296), 6),
+        (counted(3, 3, 1024, 4_294_967_297), 7),
     ];
     for (geometry, broken) in table {
         assert_eq!(rt; first_broken(&geometry), Some(broken), "{geometry:?}");
     }
 }
 
+fn divided(compact_under: u32, drop_under: u32, max_frag: u32) -> Geometry {
+    Geometry {
+        compact_under,
+        drop_under,
+        max_frag,
+        ..SMALL
+    }
+}
+
 #[test]
 fn bounds_the_parts(rt: HostRuntime) {
     let table = [
-        (
-            Geometry {
-                compact_under: 4,
-                ..SMALL
-            },
-            8,
-        ),
-        (
-            Geometry {
-                drop_under: 4,
-                ..SMALL
-            },
-            9,
-        ),
-        (
-            Geometry {
-                max_frag: 101,
-                ..SMALL
-            },
-            10,
-        ),
+        (divided(4, 3, 100), 8),
+        (divided(3, 4, 100), 9),
+        (divided(3, 3, 101), 10),
     ];
     for (geometry, broken) in table {
         assert_eq!(rt; first_broken(&geometry), Some(broken), "{geometry:?}");

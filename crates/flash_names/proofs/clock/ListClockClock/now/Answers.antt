@@ -1,6 +1,7 @@
 use Rattle.std.proofs.Common.{ℕ, List, ◌∙◌, ap, sym, subst}
 use Rattle.flash_names.specs.Clock.{Reads, reading_at}
-use Rattle.flash_names.proofs.Readings.{told_after, reads_next}
+use Rattle.flash_names.specs.ListClock.{told_after}
+use Rattle.flash_names.proofs.Readings.{reads_next}
 use Rattle.flash_names.proofs.clock.ListClockClock.now.Goals as goal
 
 pub returns-clause-reads : goal.returns-clause-reads
