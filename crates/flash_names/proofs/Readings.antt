@@ -1,5 +1,5 @@
 -- A clock over a list goes on by one reading.
-use Rattle.std.proofs.Common.{◌≡◌, ℕ, suc, ◌+◌, ◌-◌, ◌^◌, ◌<◌, min, inl, inr, Bool, true, false, List, Option, Some, None, nat_lt, if◌then◌else◌, refl, arith}
+use Rattle.std.proofs.Common.{◌≡◌, ℕ, suc, ◌+◌, ◌-◌, ◌^◌, ◌<◌, min, inl, inr, Bool, true, false, List, Some, None, nat_lt, if◌then◌else◌, refl, arith}
 use Rattle.std.proofs.lemmas.Bool.{ltb-true, lt-ltb}
 use Rattle.flash_names.specs.Clock.{Reads, readings, reading_at}
 use Rattle.flash_names.specs.ListClock.{told_after}
