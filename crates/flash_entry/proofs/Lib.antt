@@ -1,1 +1,3 @@
+mod HeadWords
+mod ReadBack
 mod WordLemmas

@@ -1,11 +1,11 @@
 -- The first line of a script or a journal: the word `store` and the eleven numbers of a geometry.
-use Rattle.std.specs.Prelude.{◌≡◌, ℕ, ◌^◌, Bool, ◌&&◌, nat_eq, nat_lt, List, [], ◌∷◌, ◌++◌, length, slice_index, Option, None, Some, Result, Ok, Err, ⊤, codes, if◌then◌else◌}
+use Rattle.std.specs.Prelude.{ℕ, ◌^◌, ◌&&◌, nat_eq, List, [], ◌∷◌, ◌++◌, length, slice_index, Option, None, Some, Result, Ok, Err, ⊤, codes, if◌then◌else◌}
 use Rattle.std.specs.Option.{option_and_then, option_map}
 use Rattle.std.specs.Str.{bytes_eq}
 use Rattle.flash_names.specs.declared.geometry.Geometry.{Geometry}
 use Rattle.flash_names.specs.declared.geometry.BadGeometry.{BadGeometry}
 use Rattle.flash_names.specs.Geometry.{checked}
-use Rattle.flash_names.specs.Numbers.{number_of}
+use Rattle.flash_names.specs.Numbers.{number_of, if_below}
 use Rattle.flash_names.specs.Words.{words}
 use Rattle.flash_entry.specs.Text.{number, line_end}
 use Rattle.flash_entry.specs.declared.head.HeadFault.{HeadFault}
@@ -19,8 +19,9 @@ numbers_of (w ∷ ws) = option_and_then (λ n. option_map (λ ns. n ∷ ns) (num
 
 -- the n-th number, where it fits 32 bits
 abbrev pub narrow_at : List ℕ → ℕ → Option ℕ
-narrow_at ns n = if nat_lt (slice_index ns n) (2 ^ 32) then Some (slice_index ns n) else None
+narrow_at ns n = if_below (2 ^ 32) (Some (slice_index ns n))
 
+-- what the second gives for what the first has, where it has something
 infixl 10 ◌>>=◌
 abbrev pub ◌>>=◌ : {A B : Type 0} → Option A → (A → Option B) → Option B
 None >>= f = None
@@ -58,6 +59,7 @@ abbrev pub kept_rules : Geometry → Result ⊤ BadGeometry → Result Geometry 
 kept_rules g (Ok _) = Ok g
 kept_rules g (Err bad) = Err (faults.Geometry bad.rule)
 
+-- the same of a geometry that was read, where its numbers fit their fields
 abbrev pub checked_geometry : Option Geometry → Result Geometry HeadFault
 checked_geometry None = Err BadNumber
 checked_geometry (Some g) = kept_rules g (checked g)
@@ -72,8 +74,12 @@ head_of_words (w ∷ ws) =
 abbrev pub head_of : List ℕ → Result Geometry HeadFault
 head_of line = head_of_words (words line)
 
--- the line of a geometry
-abbrev pub head_line : Geometry → List ℕ
-head_line g =
+-- the words of the head of a geometry
+abbrev pub head_text : Geometry → List ℕ
+head_text g =
     codes "store" ++ number g.memory ++ number g.item_size ++ number g.item_max ++ number g.pages ++ number g.page_size ++ number g.buffer_size
-    ++ number g.buffers ++ number g.compact_under ++ number g.drop_under ++ number g.max_frag ++ number g.recache ++ line_end
+    ++ number g.buffers ++ number g.compact_under ++ number g.drop_under ++ number g.max_frag ++ number g.recache
+
+-- the line of a geometry, with its line feed
+abbrev pub head_line : Geometry → List ℕ
+head_line g = head_text g ++ line_end

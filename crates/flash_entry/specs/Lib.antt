@@ -1,4 +1,5 @@
 pub mod EntryText
 pub mod Head
+pub mod HeadLaws
 pub mod Noted
 pub mod Text

@@ -8,6 +8,7 @@ mod entry;
 mod found;
 mod head;
 mod journal;
+mod laws;
 mod note;
 mod print;
 mod text;
@@ -19,6 +20,7 @@ pub use entry::{Close, Done, DropCause, EndCause, Entry, Seen};
 pub use found::{Cause, Closed, Found2, Head, Hit, Outcome, Told};
 pub use head::{HeadFault, print_head, read_head};
 pub use journal::{Counted, Journal, Kept};
+pub use laws::heads_are_read_back;
 pub use note::{CloseNote, DoneNote, Note};
 pub use print::print_entry;
 
