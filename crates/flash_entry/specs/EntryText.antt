@@ -28,6 +28,7 @@ use Rattle.flash_entry.specs.declared.entry.EndCause.TheVariants as ends
 use Rattle.flash_entry.specs.declared.entry.Entry.{Entry}
 use Rattle.flash_entry.specs.declared.entry.Entry.TheVariants as entries
 
+-- the word of a mode, which is that of its command
 abbrev pub mode_word : Mode → List ℕ
 mode_word modes.Set = codes "set"
 mode_word modes.Add = codes "add"
@@ -35,6 +36,7 @@ mode_word modes.Replace = codes "replace"
 mode_word modes.Append = codes "append"
 mode_word modes.Prepend = codes "prepend"
 
+-- the answer to a store, with the CAS number where it was stored
 abbrev pub stored_text : Stored → List ℕ
 stored_text (stored.Stored cas) = word (codes "stored") ++ number cas
 stored_text stored.NotStored = word (codes "not-stored")
@@ -43,14 +45,17 @@ stored_text stored.NotFound = word (codes "not-found")
 stored_text stored.TooLarge = word (codes "too-large")
 stored_text stored.NoNumber = word (codes "no-number")
 
+-- the answer to a delete
 abbrev pub gone_word : Gone → List ℕ
 gone_word gone.Deleted = codes "deleted"
 gone_word gone.NotFound = codes "not-found"
 gone_word gone.Exists = codes "exists"
 
+-- a number that arithmetic left, the item's CAS number, and the seconds left to its deadline
 abbrev pub summed_text : Summed → List ℕ
 summed_text summed = number summed.number ++ number summed.cas ++ signed summed.left
 
+-- the answer to arithmetic
 abbrev pub sum_text : Sum → List ℕ
 sum_text (sums.Now summed) = word (codes "now") ++ summed_text summed
 sum_text (sums.Created summed) = word (codes "created") ++ summed_text summed
@@ -59,6 +64,7 @@ sum_text sums.NonNumeric = word (codes "non-numeric")
 sum_text sums.Exists = word (codes "exists")
 sum_text sums.NoNumber = word (codes "no-number")
 
+-- the answer to a touch
 abbrev pub touched_word : Touched → List ℕ
 touched_word touched.Touched = codes "touched"
 touched_word touched.NotFound = codes "not-found"
@@ -68,6 +74,7 @@ abbrev pub create_text : Option Create → List ℕ
 create_text None = word (codes "-") ++ word (codes "-")
 create_text (Some create) = signed create.exptime ++ number create.start
 
+-- whether arithmetic takes away or adds
 abbrev pub direction_word : Bool → List ℕ
 direction_word down = if down then codes "down" else codes "up"
 
@@ -87,29 +94,35 @@ done_text (deeds.Flush delay) = word (codes "flush") ++ signed delay ++ word (co
 done_text (deeds.Stats tally) =
     word (codes "stats") ++ word (codes "=") ++ number tally.items ++ number tally.load ++ number tally.last_cas ++ number tally.now ++ number tally.free_pages
 
+-- whether a lookup wants the value or the head alone
 abbrev pub wanted_word : Bool → List ℕ
 wanted_word value = if value then codes "v" else codes "h"
 
+-- where a lookup found the value: nowhere, in memory or on a page
 abbrev pub seen_text : Seen → List ℕ
 seen_text seen.Nothing = word (codes "none")
 seen_text (seen.Here cas) = number cas ++ word (codes "here")
 seen_text (seen.Away cas label) = number cas ++ label_text label
 
+-- why an item that was found could not be answered
 abbrev pub cause_word : Cause → List ℕ
 cause_word causes.Ended = codes "ended"
 cause_word causes.Fault = codes "fault"
 cause_word causes.Damaged = codes "damaged"
 
+-- how a lookup was closed: the flags, the CAS number and the value, or why it was lost
 abbrev pub close_text : Close → List ℕ
 close_text (closes.Hit flags cas value) = word (codes "hit") ++ number flags ++ number cas ++ hexadecimal value
 close_text (closes.Lost cause) = word (codes "lost") ++ word (cause_word cause)
 
+-- why an item was dropped
 abbrev pub drop_word : DropCause → List ℕ
 drop_word drops.Dead = codes "dead"
 drop_word drops.Evict = codes "evict"
 drop_word drops.Ended = codes "ended"
 drop_word drops.Damaged = codes "damaged"
 
+-- why a page was ended
 abbrev pub end_word : EndCause → List ℕ
 end_word ends.Compacted = codes "compacted"
 end_word ends.Evict = codes "evict"

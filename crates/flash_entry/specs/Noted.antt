@@ -1,5 +1,5 @@
 -- The entries that notes stand for.
-use Rattle.std.specs.Prelude.{List, [], ◌∷◌, ◌++◌, Option, None, Some}
+use Rattle.std.specs.Prelude.{List, ◌∷◌, ◌++◌, Option}
 use Rattle.std.specs.Option.{option_map, option_to_list}
 use Rattle.flash_entry.specs.declared.entry.Entry.{Entry}
 use Rattle.flash_entry.specs.declared.entry.Entry.TheVariants as entries

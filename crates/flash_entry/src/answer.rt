@@ -15,10 +15,12 @@ pub enum Stored {
     NoNumber,
 }
 
-/// The answer to a delete.
+/// The answer to a delete (memcached's doc/protocol.txt, "Deletion").
 #[derive(Clone, Copy, Debug, PartialEq, Eq)]
 pub enum Gone {
+    /// The item was there, and is gone.
     Deleted,
+    /// There is no item under the key.
     NotFound,
     /// The item has another CAS number than the one given.
     Exists,
@@ -27,18 +29,22 @@ pub enum Gone {
 /// The number that arithmetic left.
 #[derive(Clone, Copy, Debug, PartialEq, Eq)]
 pub struct Summed {
+    /// The number that the item holds now.
     pub number: u64,
     /// The item's new CAS number.
     pub cas: u64,
-    /// The seconds that are left to its deadline, -1 where it has none.
+    /// The whole seconds that are left to its deadline, -1 where it has none.
     pub left: i64,
 }
 
-/// The answer to arithmetic.
+/// The answer to arithmetic (memcached's doc/protocol.txt, "Increment/Decrement").
 #[derive(Clone, Copy, Debug, PartialEq, Eq)]
 pub enum Sum {
+    /// The number that was under the key was changed to this one.
     Now(Summed),
+    /// No item was under the key, and this number was stored, as `Arith::create` asks.
     Created(Summed),
+    /// No item is under the key, and nothing was to be stored in its place.
     NotFound,
     /// The value is no decimal number below 2^64.
     NonNumeric,
@@ -48,22 +54,26 @@ pub enum Sum {
     NoNumber,
 }
 
-/// The answer to a touch.
+/// The answer to a touch (memcached's doc/protocol.txt, "Touch").
 #[derive(Clone, Copy, Debug, PartialEq, Eq)]
 pub enum Touched {
+    /// The item has the new deadline.
     Touched,
+    /// There is no item under the key.
     NotFound,
 }
 
 /// The store's numbers.
 #[derive(Clone, Copy, Debug, PartialEq, Eq)]
 pub struct Tally {
-    /// Items, dead ones that were not dropped yet included.
+    /// The number of items, dead ones that were not dropped yet included.
     pub items: u64,
-    /// Bytes that the items take by the store's rule.
+    /// The load in bytes: what `Geometry::memory` bounds.
     pub load: u64,
+    /// The last CAS number that was given out, 0 before the first.
     pub last_cas: u64,
     /// The store's moment, in Unix seconds.
     pub now: u64,
+    /// The number of pages of the flash file that are free.
     pub free_pages: u64,
 }

@@ -4,15 +4,21 @@ use flash_names::{Blob, Id, Key, Label, Place};
 /// A command's step that was done, with its answer.
 #[derive(Debug, Drop)]
 pub enum Done {
+    /// A value was stored, or refused.
     Store(Put, Stored),
+    /// A key was deleted or wasn't, with the CAS number that its item had to have, if one was given.
     Delete(Key, Option<u64>, Gone),
+    /// A stored number was changed or wasn't.
     Sum(Arith, Sum),
+    /// A key's item was given this exptime, as `Put::exptime`, or there is none.
     Touch(Key, i64, Touched),
+    /// All items that were there are dropped after this delay, an exptime that isn't negative.
     Flush(i64),
+    /// The store's numbers were asked for.
     Stats(Tally),
 }
 
-/// What a lookup found.
+/// Where a lookup found the value.
 #[derive(Clone, Copy, Debug, PartialEq, Eq)]
 pub enum Seen {
     /// No live item.
@@ -28,6 +34,7 @@ pub enum Seen {
 pub enum Close {
     /// Answered with these flags, CAS number and value.
     Hit(u32, u64, Blob),
+    /// Not answered, for this cause.
     Lost(Cause),
 }
 

@@ -16,7 +16,7 @@ pub enum HeadFault {
     BadWord,
     /// One of them is no number, or too large for its field.
     BadNumber,
-    /// The first rule that the geometry breaks.
+    /// The number, from 1 to 10, of the first rule that the geometry breaks.
     Geometry(u32),
 }
 

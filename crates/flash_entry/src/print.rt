@@ -1,10 +1,11 @@
 ghost use Rattle.std.specs.Prelude.{◌≡◌, ◌++◌, IfOk, OnOk};
-ghost use Rattle.std.specs.Option.{option_map};
 ghost use Rattle.flash_entry.specs.EntryText.{entry_line, entry_rest, done_text, stored_text, summed_text, sum_text, create_text, seen_text, close_text, bytes_text};
 
 use crate::text::Text;
-use crate::{Arith, Close, Create, Done, Entry, Put, Seen, Stored, Sum, Summed, Tally, words};
-use flash_names::Blob;
+use crate::{
+    Arith, Close, Create, Done, Entry, Look, Put, Seen, Stored, Sum, Summed, Tally, words,
+};
+use flash_names::{Blob, Id, Key, Label, Place};
 use std::alloc::{AllocError, Global};
 
 /// The entry's line of the journal, with its line feed.
@@ -23,40 +24,16 @@ fn print_rest(line: &mut Text, entry: &Entry) -> Result<(), AllocError>
 {
     match entry {
         Entry::Clock(moment) => line.number(*moment),
-        Entry::Did(id, done) => {
-            line.id(*id)?;
-            print_done(line, done)
-        }
-        Entry::Looked(id, key, look, seen) => {
-            line.id(*id)?;
-            line.hexadecimal(key.bytes())?;
-            line.word(words::wanted_text(look.value))?;
-            line.signed_if(look.renew)?;
-            line.word(b"=")?;
-            print_seen(line, *seen)
-        }
+        Entry::Did(id, done) => print_did(line, *id, done),
+        Entry::Looked(id, key, look, seen) => print_looked(line, *id, key, *look, *seen),
         Entry::FromBuffer(id, place) => {
             line.id(*id)?;
             line.place(*place)
         }
-        Entry::ReadBegan(id, place, reader) => {
-            line.id(*id)?;
-            line.place(*place)?;
-            line.number(u64::from(*reader))
-        }
-        Entry::ReadEnded(id, bytes) => {
-            line.id(*id)?;
-            print_bytes(line, bytes)
-        }
-        Entry::Closed(id, close) => {
-            line.id(*id)?;
-            print_close(line, close)
-        }
-        Entry::Moved(key, cas, label) => {
-            line.hexadecimal(key.bytes())?;
-            line.number(*cas)?;
-            line.label(*label)
-        }
+        Entry::ReadBegan(id, place, reader) => print_read_began(line, *id, *place, *reader),
+        Entry::ReadEnded(id, bytes) => print_read_ended(line, *id, bytes),
+        Entry::Closed(id, close) => print_closed(line, *id, close),
+        Entry::Moved(key, cas, label) => print_moved(line, key, *cas, *label),
         Entry::Recached(key, cas) => {
             line.hexadecimal(key.bytes())?;
             line.number(*cas)
@@ -77,6 +54,60 @@ fn print_rest(line: &mut Text, entry: &Entry) -> Result<(), AllocError>
         }
         Entry::Freed(label) => line.label(*label),
     }
+}
+
+fn print_did(line: &mut Text, id: Id, done: &Done) -> Result<(), AllocError>
+    ensures { OnOk result (line.new ≡ line.old ++ entry_rest (Entry.Did id done.now)) }
+{
+    line.id(id)?;
+    print_done(line, done)
+}
+
+fn print_looked(
+    line: &mut Text,
+    id: Id,
+    key: &Key,
+    look: Look,
+    seen: Seen,
+) -> Result<(), AllocError>
+    ensures { OnOk result (line.new ≡ line.old ++ entry_rest (Entry.Looked id key.now look seen)) }
+{
+    line.id(id)?;
+    line.hexadecimal(key.bytes())?;
+    line.word(words::wanted_text(look.value))?;
+    line.signed_if(look.renew)?;
+    line.word(b"=")?;
+    print_seen(line, seen)
+}
+
+fn print_read_began(line: &mut Text, id: Id, place: Place, reader: u32) -> Result<(), AllocError>
+    ensures { OnOk result (line.new ≡ line.old ++ entry_rest (Entry.ReadBegan id place reader)) }
+{
+    line.id(id)?;
+    line.place(place)?;
+    line.number(u64::from(reader))
+}
+
+fn print_read_ended(line: &mut Text, id: Id, bytes: &Option<Blob>) -> Result<(), AllocError>
+    ensures { OnOk result (line.new ≡ line.old ++ entry_rest (Entry.ReadEnded id bytes.now)) }
+{
+    line.id(id)?;
+    print_bytes(line, bytes)
+}
+
+fn print_closed(line: &mut Text, id: Id, close: &Close) -> Result<(), AllocError>
+    ensures { OnOk result (line.new ≡ line.old ++ entry_rest (Entry.Closed id close.now)) }
+{
+    line.id(id)?;
+    print_close(line, close)
+}
+
+fn print_moved(line: &mut Text, key: &Key, cas: u64, label: Label) -> Result<(), AllocError>
+    ensures { OnOk result (line.new ≡ line.old ++ entry_rest (Entry.Moved key.now cas label)) }
+{
+    line.hexadecimal(key.bytes())?;
+    line.number(cas)?;
+    line.label(label)
 }
 
 fn print_done(line: &mut Text, done: &Done) -> Result<(), AllocError>
