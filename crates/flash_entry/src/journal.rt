@@ -1,5 +1,6 @@
-ghost use Rattle.std.specs.Prelude.{◌≡◌, ℕ, ◌+◌, ◌-◌, ◌^◌, ◌<◌, ◌≤◌, min, Bool, true, false, List, [], ◌∷◌, ◌++◌, length, vec_len, vec_capacity, Option, Some, None, IsTrue, IsOk, IfOk, OnOk, OnErr};
+ghost use Rattle.std.specs.Prelude.{◌≡◌, ℕ, ◌+◌, ◌-◌, ◌^◌, ◌<◌, ◌≤◌, min, Bool, true, false, List, [], ◌∷◌, ◌++◌, length, vec_len, vec_capacity, Option, Some, None, IsTrue, IsOk, IfOk, OnOk, OnErr, refl};
 ghost use Rattle.std.specs.Option.{option_to_list};
+ghost use Rattle.std.proofs.Common.{rules};
 ghost use Rattle.flash_names.specs.Told.{behind};
 ghost use Rattle.flash_entry.specs.declared.entry.Entry.{Entry};
 ghost use Rattle.flash_entry.specs.Noted.{noted, entry_if};
@@ -16,6 +17,9 @@ pub trait Journal {
     /// Whether the next note is sure to be taken.
     ghost ready: { Self → Bool };
 
+    /// Whether every journal of this type is ready.
+    ghost always_ready: { Bool };
+
     /// Appends the entries that are there, in this order, or none of them where memory runs out. No call
     /// changes whether the journal tells. A ready journal takes them and is ready afterwards.
     fn note(
@@ -28,6 +32,9 @@ pub trait Journal {
         ensures noted { OnOk result (told self.new ≡ behind (noted first.entry second.entry third.entry fourth.entry) (told self.old)) }
         ensures refused { OnErr result (told self.new ≡ told self.old) }
         ensures ready { IsTrue (ready self.old) → IsOk result × IsTrue (ready self.new) };
+
+    /// A journal of a type that is always ready is ready.
+    ghost is_ready: { IsTrue always_ready → (journal : Self) → IsTrue (ready journal) };
 }
 
 /// A journal that keeps its entries in memory and tells them. It is never ready, since an entry takes memory.
@@ -69,6 +76,10 @@ impl Journal for Kept {
     ghost told = { λ entries. Some entries };
 
     ghost ready = { λ _. false };
+
+    ghost always_ready = { false };
+
+    ghost is_ready = { Prim.search rules };
 
     fn note(
         &mut self,
@@ -120,6 +131,10 @@ impl Journal for Counted {
     ghost told = { λ _. None };
 
     ghost ready = { λ _. true };
+
+    ghost always_ready = { true };
+
+    ghost is_ready = { λ _ _. refl };
 
     fn note(
         &mut self,
