@@ -4,6 +4,7 @@ use Rattle.std.proofs.lemmas.Bool.Decides.{nat_tests}
 use Rattle.std.proofs.lemmas.Grind.{common_steps, get_or-set_at}
 use Rattle.std.specs.List.{AllByRecursion, IsDistinct, position_from}
 use Rattle.flash_names.specs.declared.place.Label.{Label}
+use Rattle.flash_names.specs.Labels.{same_label}
 use Rattle.flash_pages.specs.declared.page_row.PageRow.{PageRow}
 use Rattle.flash_pages.specs.declared.page_row.Bucket.{Bucket}
 use Rattle.flash_pages.specs.declared.page_row.State.{State}
@@ -14,32 +15,35 @@ use Rattle.flash_pages.specs.States.{is_free}
 use Rattle.flash_pages.specs.PageTable.{PageTable, blank, row_of, with_row}
 use Rattle.flash_pages.specs.Opening.{next_opened, opened_at, opened_row, with_opened, is_refused, IsFreeRow, WasFree}
 use Rattle.flash_pages.specs.Calls.{Call, opens, pins, unpins, adds_live, takes_live, fills, ends, frees, compacts, compacts_none, spares, Allowed, after, has_ended}
-use Rattle.flash_pages.specs.Law.{AllAllowed, after_all, same_label, label_of, labels_given, Rise, pins_on, pins_of, unpinned_by, unpinned_by_all, IsKept}
+use Rattle.flash_pages.specs.Law.{AllAllowed, after_all, label_of, labels_given, Rise, pins_on, pins_of, unpinned_by, unpinned_by_all, IsKept}
 
 -- the version that a page is opened with is above the last
-Above : ℕ → Opened → Type 0
+unfoldable pub Above : ℕ → Opened → Type 0
 Above n NoPage = Unit {0}
 Above n (Page label) = n < label.version
 
-above : (t : PageTable) (refused : Bool) (number : Option ℕ) → Above t.last (cond refused NoPage (opened_at t number))
+above_of : (t : PageTable) (refused : Bool) (number : Option ℕ) → Above t.last_version (cond refused NoPage (opened_at t number))
 unfolding Above
-above t true number = tt
-above t false None = tt
-above t false (Some n) = omega arith
+above_of t true number = tt
+above_of t false None = tt
+above_of t false (Some n) = omega arith
 
-rise_opened : (t : PageTable) (bucket : Bucket) (opened : Opened) (rest : List Call) → ((s : PageTable) → Rise s.last (labels_given s rest)) → Above t.last opened → Rise t.last (label_of opened ++ labels_given (with_opened t bucket opened) rest)
+pub above : (t : PageTable) (bucket : Bucket) → Above t.last_version (next_opened t bucket)
+above t bucket = above_of t (is_refused t bucket) (position_from (λ row. is_free row.state) 0 t.rows)
+
+rise_opened : (t : PageTable) (bucket : Bucket) (opened : Opened) (rest : List Call) → ((s : PageTable) → Rise s.last_version (labels_given s rest)) → Above t.last_version opened → Rise t.last_version (label_of opened ++ labels_given (with_opened t bucket opened) rest)
 unfolding Above
 rise_opened t bucket NoPage rest later high = later t
 rise_opened t bucket (Page label) rest later high = (high, later (with_opened t bucket (Page label)))
 
-rise_pinned : (t : PageTable) (label : Label) (ended : Bool) (rest : List Call) → ((s : PageTable) → Rise s.last (labels_given s rest)) → Rise t.last (labels_given (cond ended t (with_row t label (λ row. record row { pins = row.pins + 1 }))) rest)
+rise_pinned : (t : PageTable) (label : Label) (ended : Bool) (rest : List Call) → ((s : PageTable) → Rise s.last_version (labels_given s rest)) → Rise t.last_version (labels_given (cond ended t (with_row t label (λ row. record row { pins = row.pins + 1 }))) rest)
 rise_pinned t label true rest later = later t
 rise_pinned t label false rest later = later (with_row t label (λ row. record row { pins = row.pins + 1 }))
 
 -- the versions of the labels that the calls give rise
-pub rise : (t : PageTable) (calls : List Call) → Rise t.last (labels_given t calls)
+pub rise : (t : PageTable) (calls : List Call) → Rise t.last_version (labels_given t calls)
 rise t [] = tt
-rise t (opens bucket ∷ rest) = rise_opened t bucket (next_opened t bucket) rest (λ s. rise s rest) (above t (is_refused t bucket) (position_from (λ row. is_free row.state) 0 t.rows))
+rise t (opens bucket ∷ rest) = rise_opened t bucket (next_opened t bucket) rest (λ s. rise s rest) (above t bucket)
 rise t (pins label ∷ rest) = rise_pinned t label (has_ended t label) rest (λ s. rise s rest)
 rise t (unpins label ∷ rest) = rise (after (unpins label) t) rest
 rise t (adds_live label bytes ∷ rest) = rise (after (adds_live label bytes) t) rest
@@ -109,6 +113,10 @@ was_free t false None is = tt
 was_free t false (Some number) is =
     let same : is.0 ≡ number = omega (arith, is.1) in subst (IsFreeRow t.rows) same is.2
 
+-- a page that is opened was Free
+pub opened_free : (t : PageTable) (bucket : Bucket) → WasFree t (next_opened t bucket)
+opened_free t bucket = was_free t (is_refused t bucket) (position_from (λ row. is_free row.state) 0 t.rows) (found 0 t.rows)
+
 opened_step : (t : PageTable) (label : Label) (bucket : Bucket) (opened : Opened) → WasFree t opened → pins_of t label ≤ pins_of (with_opened t bucket opened) label + 0
 opened_step t label bucket NoPage free = omega arith
 opened_step t label bucket (Page other) free =
@@ -121,8 +129,7 @@ pinned_step t label other false inside =
 
 -- the pins of a label fall by those that the call takes
 step : (t : PageTable) (label : Label) (call : Call) → Allowed t call → pins_of t label ≤ pins_of (after call t) label + unpinned_by label call
-step t label (opens bucket) may =
-    opened_step t label bucket (next_opened t bucket) (was_free t (is_refused t bucket) (position_from (λ row. is_free row.state) 0 t.rows) (found 0 t.rows))
+step t label (opens bucket) may = opened_step t label bucket (next_opened t bucket) (opened_free t bucket)
 step t label (pins other) may = pinned_step t label other (has_ended t other) may.inside
 step t label (unpins other) may =
     stays t.rows other.page label.page _ label.version _ may.inside (unpinned_on (row_of t other) other label may.version)
@@ -149,8 +156,3 @@ pub kept : (t : PageTable) (label : Label) (calls : List Call) → AllAllowed t 
 kept t label calls may fewer =
     let is = has_page (row_of (after_all calls t) label) label.version (omega (arith, counted t label calls may)) in
     record { version = is.0; kept = is.1 }
-
--- a page is freed only where it has no pin
-pub unpinned : (t : PageTable) (label : Label) (first second : List Call) → AllAllowed t (first ++ frees label ∷ second) → pins_of (after_all first t) label ≡ 0
-unpinned t label [] second may = none_on (row_of t label) label.version may.0.unpinned
-unpinned t label (call ∷ rest) second may = unpinned (after call t) label rest second may.1

@@ -1,4 +1,4 @@
--- The calls that change the pages: when each may be made, and what is after it.
+-- When each call may be made, and what is after it.
 use Rattle.std.specs.Prelude.{◌≡◌, ℕ, ◌+◌, ◌-◌, ◌^◌, ◌<◌, ◌≤◌, Bool, true, false, not, ◌&&◌, nat_eq, length, None, Some, if◌then◌else◌}
 use Rattle.flash_names.specs.declared.place.Label.{Label}
 use Rattle.flash_pages.specs.declared.page_row.Bucket.{Bucket}
@@ -7,6 +7,7 @@ use Rattle.flash_pages.specs.States.{is_open, is_full, is_ended, is_in_use}
 use Rattle.flash_pages.specs.PageTable.{PageTable, row_of, IsAt, with_row}
 use Rattle.flash_pages.specs.Opening.{next_opened, with_opened}
 
+-- the calls that change the pages, with what they are given
 pub data Call : Type 0 where
   opens : Bucket → Call
   pins : Label → Call

@@ -1,6 +1,7 @@
 -- What any list of calls keeps: pins, and the labels that they give.
 use Rattle.std.specs.Prelude.{◌≡◌, ℕ, ◌+◌, ◌<◌, Bool, false, not, ◌&&◌, nat_eq, List, [], ◌∷◌, ◌++◌, if◌then◌else◌}
 use Rattle.flash_names.specs.declared.place.Label.{Label}
+use Rattle.flash_names.specs.Labels.{same_label}
 use Rattle.flash_pages.specs.declared.page_row.PageRow.{PageRow}
 use Rattle.flash_pages.specs.declared.pages.Opened.{Opened}
 use Rattle.flash_pages.specs.declared.pages.Opened.TheVariants.{Page, NoPage}
@@ -18,9 +19,6 @@ AllAllowed t (call ∷ rest) = Allowed t call × AllAllowed (after call t) rest
 abbrev pub after_all : List Call → PageTable → PageTable
 after_all [] t = t
 after_all (call ∷ rest) t = after_all rest (after call t)
-
-abbrev pub same_label : Label → Label → Bool
-same_label one other = nat_eq one.page other.page && nat_eq one.version other.version
 
 -- the label of a page that is opened, if there is one
 abbrev pub label_of : Opened → List Label
@@ -59,6 +57,7 @@ has_version row version = nat_eq row.version version && not (is_free row.state)
 abbrev pub pins_on : PageRow → ℕ → ℕ
 pins_on row version = if has_version row version then row.pins else 0
 
+-- the pins of a label in these pages
 abbrev pub pins_of : PageTable → Label → ℕ
 pins_of t label = pins_on (row_of t label) label.version
 

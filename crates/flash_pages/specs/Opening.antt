@@ -17,12 +17,12 @@ wanted Compact = 1
 
 -- fewer pages are free, or the last version was given
 abbrev pub is_refused : PageTable → Bucket → Bool
-is_refused t bucket = nat_lt (free_count t) (wanted bucket) || nat_le (2 ^ 63) t.last
+is_refused t bucket = nat_lt (free_count t) (wanted bucket) || nat_le (2 ^ 63) t.last_version
 
 -- this page, with the version above the last
 abbrev pub opened_at : PageTable → Option ℕ → Opened
 opened_at t None = NoPage
-opened_at t (Some number) = Page (record { page = number; version = t.last + 1 })
+opened_at t (Some number) = Page (record { page = number; version = t.last_version + 1 })
 
 -- the free page of lowest number, unless it is refused
 abbrev pub next_opened : PageTable → Bucket → Opened
@@ -37,7 +37,7 @@ opened_row bucket version = record { state = Open; version = version; bucket = b
 abbrev pub with_opened : PageTable → Bucket → Opened → PageTable
 with_opened t bucket NoPage = t
 with_opened t bucket (Page label) =
-    record t { rows = slice_set t.rows label.page (opened_row bucket label.version); last = label.version }
+    record t { rows = slice_set t.rows label.page (opened_row bucket label.version); last_version = label.version }
 
 -- the page of this number is Free
 abbrev pub IsFreeRow : List PageRow → ℕ → Type 0

@@ -1,5 +1,4 @@
--- What the pages are, as one record: their rows by number, the last version that was given, the page under
--- compaction, and the numbers of the geometry that the answers use.
+-- What the pages are, and what they are before the first is opened.
 use Rattle.std.specs.Prelude.{◌≡◌, ℕ, ◌<◌, Bool, false, IsTrue, List, length, replicate, count_by, slice_index_or, slice_set, Option, None}
 use Rattle.flash_names.specs.declared.geometry.Geometry.{Geometry}
 use Rattle.flash_names.specs.declared.place.Label.{Label}
@@ -9,9 +8,11 @@ use Rattle.flash_pages.specs.declared.page_row.State.TheVariants.{Free}
 use Rattle.flash_pages.specs.declared.page_row.Bucket.TheVariants.{Default}
 use Rattle.flash_pages.specs.States.{is_free}
 
+-- their rows by number, the last version that was given, the label under compaction, and the numbers of the
+-- geometry that the answers use
 pub record PageTable : Type 0 where
   pub rows : List PageRow
-  pub last : ℕ
+  pub last_version : ℕ
   pub under : Option Label
   pub page_size : ℕ
   pub compact_under : ℕ
@@ -26,7 +27,7 @@ blank = record { state = Free; version = 0; bucket = Default; pins = 0; live = 0
 abbrev pub first_table : Geometry → PageTable
 first_table g = record {
   rows = replicate g.pages blank;
-  last = 0;
+  last_version = 0;
   under = None;
   page_size = g.page_size;
   compact_under = g.compact_under;

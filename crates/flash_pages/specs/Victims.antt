@@ -1,7 +1,8 @@
 -- Which page is evicted or compacted next.
-use Rattle.std.specs.Prelude.{◌≡◌, ℕ, ◌*◌, ◌<◌, ◌≤◌, Bool, false, not, ◌&&◌, nat_eq, nat_le, Option, None, Some, if◌then◌else◌}
+use Rattle.std.specs.Prelude.{◌≡◌, ℕ, ◌*◌, ◌<◌, ◌≤◌, Bool, false, not, ◌&&◌, nat_le, Option, None, Some, if◌then◌else◌}
 use Rattle.std.specs.Option.{option_map}
 use Rattle.flash_names.specs.declared.place.Label.{Label}
+use Rattle.flash_names.specs.Labels.{same_label}
 use Rattle.flash_pages.specs.declared.page_row.PageRow.{PageRow}
 use Rattle.flash_pages.specs.declared.victims.Candidate.{Candidate}
 use Rattle.flash_pages.specs.States.{is_full}
@@ -11,7 +12,7 @@ use Rattle.flash_pages.specs.Least.{least_from}
 -- whether this label is the one under compaction
 abbrev pub is_under : Option Label → Label → Bool
 is_under None label = false
-is_under (Some other) label = nat_eq other.page label.page && nat_eq other.version label.version
+is_under (Some other) label = same_label other label
 
 -- a Full page that isn't under compaction may be evicted: its weight is its version
 abbrev pub to_evict : Option Label → ℕ → PageRow → Option Candidate
@@ -47,6 +48,7 @@ pub record IsOldest (t : PageTable) (label : Label) : Type 0 where
   pub may : MayEvict t label
   pub oldest : (other : Label) → MayEvict t other → label.version ≤ other.version
 
+-- where few enough pages are free, none may be evicted
 abbrev pub NoneToEvict : PageTable → Type 0
 NoneToEvict t = free_count t ≤ t.drop_under → (label : Label) → MayEvict t label → ⊥
 
@@ -63,5 +65,6 @@ pub record IsEmptiest (t : PageTable) (label : Label) : Type 0 where
   pub fewest : (other : Label) → MayCompact t other → (row_of t label).live_bytes ≤ (row_of t other).live_bytes
   pub first : (other : Label) → MayCompact t other → other.page < label.page → (row_of t label).live_bytes < (row_of t other).live_bytes
 
+-- where few enough pages are free, none may be compacted
 abbrev pub NoneToCompact : PageTable → Type 0
 NoneToCompact t = free_count t ≤ t.compact_under → (label : Label) → MayCompact t label → ⊥

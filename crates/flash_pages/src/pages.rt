@@ -8,8 +8,8 @@ ghost use Rattle.flash_pages.specs.Freeable.{freeable, first_freeable};
 ghost use Rattle.flash_pages.specs.Victims.{victim_evict, victim_compact};
 ghost use Rattle.flash_pages.specs.Calls.{after, opens, pins, unpins, adds_live, takes_live, fills, ends, frees, compacts, compacts_none, spares, has_ended, CanPin, HasPin, CanAdd, HasLive, CanFree, CanCompact};
 
+use crate::page_row::{Bucket, PageRow, State};
 use crate::victims::{least_to_compact, least_to_evict};
-use crate::{Bucket, PageRow, State};
 use flash_names::{Geometry, Label};
 use std::alloc::{AllocError, Global};
 use std::marker::Model;
@@ -41,7 +41,7 @@ pub enum Pinned {
 pub struct Pages {
     rows: Vec<PageRow>,
     free: usize,
-    last: u64,
+    last_version: u64,
     under: Option<Label>,
     page_size: u32,
     compact_under: u32,
@@ -58,7 +58,7 @@ impl Model for Pages {
 
     ghost view = { λ p. record {
       rows = p.rows.items;
-      last = p.last;
+      last_version = p.last_version;
       under = p.under;
       page_size = p.page_size;
       compact_under = p.compact_under;
@@ -70,7 +70,7 @@ impl Model for Pages {
 }
 
 impl Pages {
-    /// The pages of this geometry, all of them free, or want of memory. No later call takes memory.
+    /// The pages of this geometry, all of them free, or want of memory. No later call answers that.
     pub fn open(alloc: Global, geometry: &Geometry) -> Result<Pages, AllocError>
         ensures { IfOk result (λ pages. pages ≡ first_table geometry.now) }
     {
@@ -81,7 +81,7 @@ impl Pages {
         Ok(Pages {
             rows,
             free: geometry.pages as usize,
-            last: 0,
+            last_version: 0,
             under: None,
             page_size: geometry.page_size,
             compact_under: geometry.compact_under,
@@ -97,14 +97,14 @@ impl Pages {
         ensures none { (result ≡ Opened.NoPage) ↔ IsTrue (is_refused self.now bucket) }
         ensures free { WasFree self.now result }
     {
-        if self.free < wanted(bucket) || self.last >= LAST_VERSION {
+        if self.free < wanted(bucket) || self.last_version >= LAST_VERSION {
             return Opened::NoPage;
         }
         match first_free(&self.rows) {
             None => Opened::NoPage,
             Some(page) => Opened::Page(Label {
                 page,
-                version: self.last + 1,
+                version: self.last_version + 1,
             }),
         }
     }
@@ -120,12 +120,13 @@ impl Pages {
         let opened = self.next_page(bucket);
         if let Opened::Page(label) = opened {
             self.put(label.page, PageRow::opened(bucket, label.version));
-            self.last = label.version;
+            self.last_version = label.version;
         }
         opened
     }
 
-    /// Counts one pin more on the label's page, unless the label has ended.
+    /// Counts one pin more on the label's page, unless the label has ended. There has to be such a page, with
+    /// fewer than 2^64 - 1 pins.
     pub fn pin(&mut self, label: Label) -> Pinned
         requires { CanPin self.old label }
         ensures exact { result ≡ (if has_ended self.old label then Pinned.Ended else Pinned.Yes) }
@@ -145,7 +146,7 @@ impl Pages {
         Pinned::Yes
     }
 
-    /// Counts one pin fewer on the label's page.
+    /// Counts one pin fewer on the label's page. The page has to have the label's version and a pin.
     pub fn unpin(&mut self, label: Label)
         requires { HasPin self.old label }
         ensures { self.new ≡ after (unpins label) self.old }
@@ -160,12 +161,15 @@ impl Pages {
         );
     }
 
-    /// Counts one live record more, of so many bytes, on the label's page.
+    /// Counts one live record more, of so many bytes, on the label's page. The page has to be Open or Full with
+    /// the label's version and have fewer than 2^32 - 1 live records, and its live bytes with these have to be
+    /// at most a page's.
     pub fn add_live(&mut self, label: Label, bytes: u32)
         requires { CanAdd self.old label bytes }
         ensures { self.new ≡ after (adds_live label bytes) self.old }
     {
         let row = self.row(label.page);
+        // Read for the proof: a page has fewer than 2^32 bytes, so the sum doesn't wrap.
         let _size = self.page_size;
         self.put(
             label.page,
@@ -177,7 +181,8 @@ impl Pages {
         );
     }
 
-    /// Counts one live record fewer, of so many bytes, on the label's page.
+    /// Counts one live record fewer, of so many bytes, on the label's page. The page has to have the label's
+    /// version, a live record and so many live bytes.
     pub fn take_live(&mut self, label: Label, bytes: u32)
         requires { HasLive self.old label bytes }
         ensures { self.new ≡ after (takes_live label bytes) self.old }
@@ -193,7 +198,7 @@ impl Pages {
         );
     }
 
-    /// How many records of the label's page are live.
+    /// How many records of the label's page are live. The page has to be Open or Full with the label's version.
     pub fn live(&self, label: Label) -> u32
         requires { IsAt is_in_use self.now label }
         ensures { result ≡ (row_of self.now label).live }
@@ -201,7 +206,8 @@ impl Pages {
         self.row(label.page).live
     }
 
-    /// The label's page is Full: each of its blocks has been written.
+    /// Makes the label's page Full: each of its blocks has been written. The page has to be Open with the
+    /// label's version.
     pub fn filled(&mut self, label: Label)
         requires { IsAt is_open self.old label }
         ensures { self.new ≡ after (fills label) self.old }
@@ -216,7 +222,8 @@ impl Pages {
         );
     }
 
-    /// The label has ended.
+    /// Ends the label: its page is Ended, and may be freed once no read has a pin on it. The page has to be Open
+    /// or Full with the label's version.
     pub fn end(&mut self, label: Label)
         requires { IsAt is_in_use self.old label }
         ensures { self.new ≡ after (ends label) self.old }
@@ -231,7 +238,8 @@ impl Pages {
         );
     }
 
-    /// Whether the label has ended: its page has another version, or is Ended or Free.
+    /// Whether the label has ended: its page has another version, or is Ended or Free. There has to be such a
+    /// page.
     pub fn has_ended(&self, label: Label) -> bool
         requires { label.page < length self.now.rows }
         ensures { result ≡ has_ended self.now label }
@@ -247,7 +255,7 @@ impl Pages {
         first_freeable(&self.rows)
     }
 
-    /// The label's page is Free.
+    /// Makes the label's page Free. The page has to be Ended, with the label's version and no pin.
     pub fn free(&mut self, label: Label)
         requires { CanFree self.old label }
         ensures { self.new ≡ after (frees label) self.old }
@@ -285,7 +293,7 @@ impl Pages {
 
     /// The page to compact, where at most the geometry's `compact_under` pages are free: the Full page, not
     /// spared, with fewest live bytes, and of lowest number on a tie, if these are at most `max_frag` percent
-    /// of a page.
+    /// of a page. It may be the page that is under compaction.
     pub fn victim_compact(&self) -> Option<Label>
         ensures { result ≡ victim_compact self.now }
     {
@@ -296,7 +304,8 @@ impl Pages {
         least_to_compact(&self.rows, most).map(|candidate| candidate.label)
     }
 
-    /// The label's page is under compaction.
+    /// Marks the label's page as under compaction, until `compact_off`. The page has to be Full with the label's
+    /// version, and none may be under compaction.
     pub fn compact_on(&mut self, label: Label)
         requires { CanCompact self.old label }
         ensures { self.new ≡ after (compacts label) self.old }
@@ -304,14 +313,15 @@ impl Pages {
         self.under = Some(label);
     }
 
-    /// No page is under compaction.
+    /// Ends the compaction that is under way, if one is.
     pub fn compact_off(&mut self)
         ensures { self.new ≡ after compacts_none self.old }
     {
         self.under = None;
     }
 
-    /// Compaction leaves the label's page out from now on.
+    /// Leaves the label's page out of compaction until it is freed. The page has to be Open or Full with the
+    /// label's version.
     pub fn spare(&mut self, label: Label)
         requires { IsAt is_in_use self.old label }
         ensures { self.new ≡ after (spares label) self.old }

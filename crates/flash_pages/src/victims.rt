@@ -2,7 +2,7 @@ ghost use Rattle.std.specs.Prelude.{◌≡◌, ◌^◌, ◌<◌, ◌≤◌, List
 ghost use Rattle.flash_pages.specs.Least.{least_from, lesser};
 ghost use Rattle.flash_pages.specs.Victims.{to_evict, to_compact, is_under};
 
-use crate::PageRow;
+use crate::page_row::PageRow;
 use flash_names::Label;
 
 /// A page that may be chosen, and the number by which the least is chosen.
@@ -64,7 +64,7 @@ fn is_under(under: Option<Label>, label: Label) -> bool
 {
     match under {
         None => false,
-        Some(other) => other.page == label.page && other.version == label.version,
+        Some(other) => other.is_same(label),
     }
 }
 
