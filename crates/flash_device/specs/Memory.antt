@@ -4,12 +4,12 @@ use Rattle.std.specs.Option.{ForSome}
 use Rattle.flash_device.specs.declared.shape.Shape.{Shape}
 use Rattle.flash_device.specs.Pages.{HasShape}
 
--- what they are, and what they are ready for
+-- the bytes of each page, and the shape that they were made for, if they were
 pub record Held : Type 0 where
   pub shape : Option Shape
   pub pages : List (List ℕ)
 
--- pages of a shape are as that says
+-- where there is a shape, the pages have it
 abbrev pub IsFitted : Option Shape → List (List ℕ) → Type 0
 IsFitted shape pages = ForSome shape (λ s. HasShape s pages)
 

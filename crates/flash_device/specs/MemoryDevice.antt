@@ -7,6 +7,6 @@ use Rattle.flash_device.specs.declared.memory_device.MemoryDevice.{MemoryDevice}
 abbrev pub held_by : MemoryDevice → Held
 held_by device = device.memory
 
--- the calls that fail
+-- its plan: the calls that fail, and what it has counted
 abbrev pub plan_of : MemoryDevice → Plan
 plan_of device = device.plan

@@ -21,11 +21,11 @@ range_of page offset n pages = take n (drop offset (get_or pages page []))
 abbrev pub put_at : ℕ → List ℕ → List ℕ → List ℕ
 put_at offset bytes page = take offset page ++ (bytes ++ drop (offset + length bytes) page)
 
--- the pages after that, at a place
+-- the pages after these bytes were put at an offset of one of them
 abbrev pub overwritten : ℕ → ℕ → List ℕ → List (List ℕ) → List (List ℕ)
 overwritten page offset bytes pages = set pages page (put_at offset bytes (get_or pages page []))
 
--- the pages that were told hold these bytes at the place from then on, and the rest is as it was
+-- the pages that were told have these bytes in the range, and the rest is as it was
 abbrev pub Holds : ℕ → ℕ → List ℕ → Option (List (List ℕ)) → Option (List (List ℕ)) → Type 0
 Holds page offset bytes before now = now ≡ option_map (overwritten page offset bytes) before
 

@@ -21,7 +21,8 @@ pub trait Device {
     /// How often it has failed. It never falls.
     ghost faults: { Self → ℕ };
 
-    /// Makes the device ready for so many pages of so many bytes each.
+    /// Makes the device ready for so many pages of so many bytes each. What bytes they then have isn't said.
+    /// After an error it is as ready as before, and has the bytes that it had.
     fn prepare(&mut self, pages: u32, page_size: u32) -> Result<(), PrepareError>
         ensures ready { OnOk result (prepared self.new ≡ Some (record { pages = pages; page_size = page_size })) }
         ensures shaped { OnOk result (ForSome (content self.new) (HasShape (record { pages = pages; page_size = page_size }))) }
@@ -33,7 +34,8 @@ pub trait Device {
         ensures kept { faults self.old ≤ faults self.new }
         ensures cause { IsTrue (is_fault result) → Rose (faults self.old) (faults self.new) };
 
-    /// Reads the bytes of a page from an offset on.
+    /// Reads the bytes of a page from an offset on. Pages are counted from 0, offsets in bytes. The device has to
+    /// be prepared, and the range to lie in the page. After a fault `into` may hold anything.
     fn read(&mut self, page: u32, offset: u32, into: &mut [u8]) -> Result<(), DeviceFault>
         requires { IsSomeAnd (prepared self.old) (Within page offset (length into.old)) }
         ensures given { OnOk result (ForSome (content self.old) (λ pages. into.new ≡ range_of page offset (length into.old) pages)) }
@@ -42,7 +44,8 @@ pub trait Device {
         ensures called { Called (is_err result) (calls self.old) (calls self.new) }
         ensures counts { Counts (faults self.old) (faults self.new) result };
 
-    /// Writes these bytes to a page from an offset on. A write that fails may leave any bytes in its range.
+    /// Writes these bytes to a page from an offset on. The device has to be prepared, and the range to lie in the
+    /// page. A write that fails may leave any bytes in its range.
     fn write(&mut self, page: u32, offset: u32, bytes: &[u8]) -> Result<(), DeviceFault>
         requires { IsSomeAnd (prepared self.old) (Within page offset (length bytes.now)) }
         ensures held { OnOk result (Holds page offset bytes.now (content self.old) (content self.new)) }

@@ -1,4 +1,4 @@
-ghost use Rattle.std.specs.Prelude.{◌≡◌, ℕ, ◌≤◌, [], List, length, Option, Some, None, Ok, Err, IsSomeAnd, OnOk, OnErr, IsTrue, is_err, is_some};
+ghost use Rattle.std.specs.Prelude.{◌≡◌, ℕ, ◌≤◌, [], List, length, Option, Some, None, false, Ok, Err, IsSomeAnd, OnOk, OnErr, IsTrue, is_err, is_some};
 ghost use Rattle.std.specs.Option.{ForSome};
 ghost use Rattle.flash_names.specs.Faults.{Counts, Rose};
 ghost use Rattle.flash_device.specs.Calls.{Called, is_fault};
@@ -9,7 +9,7 @@ use crate::page_memory::PageMemory;
 use crate::{Device, DeviceFault, PrepareError};
 use std::alloc::Global;
 
-/// A device in memory that never fails and tells its bytes. Only memory for its pages may be wanting.
+/// A device in memory that never fails and tells its bytes. Its `prepare` may find no memory.
 #[derive(Debug, Drop)]
 pub struct FaultlessDevice {
     memory: PageMemory,
@@ -39,7 +39,15 @@ impl Device for FaultlessDevice {
 
     ghost faults = { λ _. 0 };
 
-    fn prepare(&mut self, pages: u32, page_size: u32) -> Result<(), PrepareError> {
+    fn prepare(&mut self, pages: u32, page_size: u32) -> Result<(), PrepareError>
+        ensures ready { OnOk result ((held_by self.new).shape ≡ Some (record { pages = pages; page_size = page_size })) }
+        ensures shaped { OnOk result (ForSome (Some (held_by self.new).pages) (HasShape (record { pages = pages; page_size = page_size }))) }
+        ensures refused { OnErr result (((held_by self.new).shape ≡ (held_by self.old).shape) × (Some (held_by self.new).pages ≡ Some (held_by self.old).pages)) }
+
+        // It never fails, and where there is memory its pages are zeros then.
+        ensures faultless { is_fault result ≡ false }
+        ensures blank { OnOk result (held_by self.new ≡ blank (record { pages = pages; page_size = page_size })) }
+    {
         match self.memory.prepare(pages, page_size) {
             Ok(()) => Ok(()),
             Err(_) => Err(PrepareError::NoMemory),

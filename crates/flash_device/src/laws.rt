@@ -2,7 +2,7 @@ ghost use Rattle.std.specs.Prelude.{◌≡◌, ℕ, ◌+◌, ◌<◌, ◌≤◌,
 ghost use Rattle.flash_device.specs.declared.shape.Shape.{Shape};
 ghost use Rattle.flash_device.specs.Pages.{HasShape, Within, range_of, overwritten};
 
-/// Bytes that were put at a place stand there from then on, and the pages keep their number and size.
+/// Bytes that were put in a range stand there, and the pages keep their number and size.
 pub fn stands_there()
     ensures shape { (shape : Shape) (pages : List (List ℕ)) (page offset : ℕ) (bytes : List ℕ) → HasShape shape pages → Within page offset (length bytes) shape → HasShape shape (overwritten page offset bytes pages) }
     ensures range { (shape : Shape) (pages : List (List ℕ)) (page offset : ℕ) (bytes : List ℕ) → HasShape shape pages → Within page offset (length bytes) shape → range_of page offset (length bytes) (overwritten page offset bytes pages) ≡ bytes }

@@ -1,19 +1,19 @@
-ghost use Rattle.std.specs.Prelude.{◌≡◌, ℕ, ◌≤◌, [], List, length, Option, Some, None, Ok, Err, IsSomeAnd, OnOk, OnErr, IsTrue, is_err, is_some, if◌then◌else◌};
+ghost use Rattle.std.specs.Prelude.{◌≡◌, ℕ, ◌/◌, ◌≤◌, [], List, length, take, Option, Some, None, Ok, Err, IsSomeAnd, OnOk, OnErr, IsTrue, is_err, is_some, if◌then◌else◌};
 ghost use Rattle.std.specs.Option.{ForSome};
 ghost use Rattle.flash_names.specs.Faults.{Counts, Rose};
 ghost use Rattle.flash_names.specs.FaultPlan.{fails_next, after_call};
 ghost use Rattle.flash_device.specs.Calls.{Called, is_fault, told_by};
 ghost use Rattle.flash_device.specs.Memory.{blank};
-ghost use Rattle.flash_device.specs.Pages.{HasShape, Within, range_of, Holds, Spoils};
+ghost use Rattle.flash_device.specs.Pages.{HasShape, Within, range_of, overwritten, Holds, Spoils};
 
 use crate::page_memory::PageMemory;
 use crate::{Device, DeviceFault, PrepareError};
 use flash_names::FaultPlan;
 use std::alloc::Global;
 
-/// A device in memory, which tells its bytes and, while they are fewer than 2^64 - 1, its calls. It fails in
-/// the calls of its plan, counted from 1, of which `prepare` is the first. A write that fails leaves the
-/// first half of its bytes.
+/// A device in memory, which tells its bytes, and its calls while these are fewer than 2^64 - 1. It fails in
+/// the calls of its plan, counted from 1, of which `prepare` is the first. A write that fails leaves the first
+/// half of its bytes, rounded down.
 #[derive(Debug, Drop)]
 pub struct MemoryDevice {
     memory: PageMemory,
@@ -99,6 +99,9 @@ impl Device for MemoryDevice {
         // It fails exactly in the calls of its plan.
         ensures exact { result ≡ (if fails_next (plan_of self.old) then Err (record {}) else Ok tt) }
         ensures plan { plan_of self.new ≡ after_call (plan_of self.old) }
+
+        // A write that fails leaves the first half of its bytes, and the rest as it was.
+        ensures half { OnErr result ((held_by self.new).pages ≡ overwritten page offset (take (length bytes.now / 2) bytes.now) (held_by self.old).pages) }
     {
         if self.plan.next_fails() {
             self.memory.write_half(page, offset, bytes);

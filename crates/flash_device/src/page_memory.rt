@@ -1,4 +1,4 @@
-ghost use Rattle.std.specs.Prelude.{◌≡◌, ℕ, ◌+◌, ◌<◌, ◌≤◌, [], List, length, get_or, replicate, set, IfOk, IsSomeAnd, None, Some, OnOk, OnErr};
+ghost use Rattle.std.specs.Prelude.{◌≡◌, ℕ, ◌+◌, ◌/◌, ◌<◌, ◌≤◌, [], List, length, take, get_or, replicate, set, IfOk, IsSomeAnd, None, Some, OnOk, OnErr};
 ghost use Rattle.flash_device.specs.Memory.{Held, IsFitted, blank};
 ghost use Rattle.flash_device.specs.Pages.{Within, range_of, put_at, overwritten};
 
@@ -68,7 +68,8 @@ impl PageMemory {
     pub fn write_half(&mut self, page: u32, offset: u32, bytes: &[u8])
         requires { IsSomeAnd self.old.shape (Within page offset (length bytes.now)) }
         ensures shape { self.new.shape ≡ self.old.shape }
-        ensures pages { (left : List ℕ) × (length left ≡ length bytes.now) × (self.new.pages ≡ overwritten page offset left self.old.pages) }
+        ensures pages { self.new.pages ≡ overwritten page offset (take (length bytes.now / 2) bytes.now) self.old.pages }
+        ensures spoiled { (left : List ℕ) × (length left ≡ length bytes.now) × (self.new.pages ≡ overwritten page offset left self.old.pages) }
     {
         put_half(&mut self.pages[page as usize], offset as usize, bytes);
     }
@@ -93,7 +94,10 @@ fn put(page: &mut Blob, offset: usize, bytes: &[u8])
 
 fn put_half(page: &mut Blob, offset: usize, bytes: &[u8])
     requires { offset + length bytes.now ≤ length page.old }
-    ensures { (left : List ℕ) × (length left ≡ length bytes.now) × (page.new ≡ put_at offset left page.old) }
+    ensures half { page.new ≡ put_at offset (take (length bytes.now / 2) bytes.now) page.old }
+
+    // That is one way of putting as many bytes there as were given.
+    ensures spoiled { (left : List ℕ) × (length left ≡ length bytes.now) × (page.new ≡ put_at offset left page.old) }
 {
     put(page, offset, &bytes[..bytes.len() / 2]);
 }
