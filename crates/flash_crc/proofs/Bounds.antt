@@ -1,6 +1,7 @@
 -- The checksum of bytes has 32 bits.
-use Rattle.std.proofs.Common.{ℕ, zero, suc, ◌/◌, ◌^◌, ◌<◌, List, [], ◌∷◌, get_or, Bool, true, false, bit_xor, if◌then◌else◌, nat_eq, ◌%◌, arith, lit<}
+use Rattle.std.proofs.Common.{ℕ, zero, suc, ◌/◌, ◌^◌, ◌<◌, List, [], ◌∷◌, Bool, true, false, bit_xor, if◌then◌else◌, nat_eq, ◌%◌, arith, lit<}
 use Rattle.std.proofs.lemmas.Nat.{xor_lt}
+use Rattle.flash_crc.specs.Bytes.{IsBytes}
 use Rattle.flash_crc.specs.Crc32c.{polynomial, all_ones, after_bit, after_bits, remainder, crc32c}
 
 bit_fits : (r : ℕ) → r < 2 ^ 32 → after_bit r < 2 ^ 32
@@ -14,12 +15,12 @@ unfolding after_bits
 bits_fit zero r fits = fits
 bits_fit (suc n) r fits = bits_fit n (after_bit r) (bit_fits r fits)
 
-remainder_fits : (r : ℕ) (bytes : List ℕ) → r < 2 ^ 32 → ((i : ℕ) → get_or bytes i 0 < 256) → remainder r bytes < 2 ^ 32
+remainder_fits : (r : ℕ) (bytes : List ℕ) → r < 2 ^ 32 → IsBytes bytes → remainder r bytes < 2 ^ 32
 remainder_fits r [] fits each = fits
 remainder_fits r (byte ∷ rest) fits each =
     let small : byte < 256 = each 0 in
     remainder_fits (after_bits 8 (bit_xor r byte)) rest (bits_fit 8 (bit_xor r byte) (xor_lt 32 r byte fits (omega arith))) (λ i. each (suc i))
 
-pub crc32c_fits : (bytes : List ℕ) → ((i : ℕ) → get_or bytes i 0 < 256) → crc32c bytes < 2 ^ 32
+pub crc32c_fits : (bytes : List ℕ) → IsBytes bytes → crc32c bytes < 2 ^ 32
 unfolding crc32c
 crc32c_fits bytes each = xor_lt 32 (remainder all_ones bytes) all_ones (remainder_fits all_ones bytes (lit< tt) each) (lit< tt)

@@ -1,7 +1,7 @@
 -- The rows of the tables are held against the definition by computing: each is the row before it with eight
 -- steps more, where the numbers from 0 on stand before the first.
 use Rattle.std.proofs.Common.{◌≡◌, ℕ, zero, suc, ◌+◌, ◌*◌, ◌<◌, Bool, true, false, ◌&&◌, nat_eq, List, [], ◌∷◌, length, get_or, refl, sym, ap, ◌∙◌, arith}
-use Rattle.std.proofs.lemmas.Bool.{eqb-true}
+use Rattle.std.proofs.lemmas.Bool.{and_parts, eqb-true}
 use Rattle.flash_crc.specs.Crc32c.{after_bits}
 use Rattle.flash_crc.specs.declared.tables.TheConstants.{TABLES}
 use Rattle.flash_crc.proofs.Linear.{in_turn, from_zero}
@@ -26,26 +26,22 @@ rows_follow : List ℕ → List (List ℕ) → Bool
 rows_follow before [] = true
 rows_follow before (row ∷ rest) = follows before row && rows_follow row rest
 
-both : (a b : Bool) → a && b ≡ true → (a ≡ true) × (b ≡ true)
-both true b is = (refl, is)
-both false b is = absurd (cc is)
-
 entry_follows : (xs ys : List ℕ) → follows xs ys ≡ true → (i : ℕ) → get_or ys i 0 ≡ after_bits 8 (get_or xs i 0)
 unfolding follows
 entry_follows [] [] is i = sym (from_zero 8)
 entry_follows [] (y ∷ ys) is i = absurd (cc is)
 entry_follows (x ∷ xs) [] is i = absurd (cc is)
-entry_follows (x ∷ xs) (y ∷ ys) is zero = eqb-true y (after_bits 8 x) (both (nat_eq y (after_bits 8 x)) (follows xs ys) is).0
-entry_follows (x ∷ xs) (y ∷ ys) is (suc i) = entry_follows xs ys (both (nat_eq y (after_bits 8 x)) (follows xs ys) is).1 i
+entry_follows (x ∷ xs) (y ∷ ys) is zero = eqb-true y (after_bits 8 x) (and_parts (nat_eq y (after_bits 8 x)) (follows xs ys) is).0
+entry_follows (x ∷ xs) (y ∷ ys) is (suc i) = entry_follows xs ys (and_parts (nat_eq y (after_bits 8 x)) (follows xs ys) is).1 i
 
 row_entry : (before : List ℕ) (rows : List (List ℕ)) → rows_follow before rows ≡ true → (k : ℕ) → k < length rows → (i : ℕ) → get_or (get_or rows k []) i 0 ≡ after_bits (8 * k + 8) (get_or before i 0)
 unfolding rows_follow
 row_entry before [] is k lt i = absurd (omega arith)
-row_entry before (row ∷ rest) is zero lt i = entry_follows before row (both (follows before row) (rows_follow row rest) is).0 i
+row_entry before (row ∷ rest) is zero lt i = entry_follows before row (and_parts (follows before row) (rows_follow row rest) is).0 i
 row_entry before (row ∷ rest) is (suc k) lt i =
     let count : 8 + (8 * k + 8) ≡ 8 * suc k + 8 = omega arith in
-    row_entry row rest (both (follows before row) (rows_follow row rest) is).1 k (omega arith) i
-    ∙ ap (after_bits (8 * k + 8)) (entry_follows before row (both (follows before row) (rows_follow row rest) is).0 i)
+    row_entry row rest (and_parts (follows before row) (rows_follow row rest) is).1 k (omega arith) i
+    ∙ ap (after_bits (8 * k + 8)) (entry_follows before row (and_parts (follows before row) (rows_follow row rest) is).0 i)
     ∙ sym (in_turn 8 (8 * k + 8) (get_or before i 0))
     ∙ ap (λ (j : ℕ). after_bits j (get_or before i 0)) count
 

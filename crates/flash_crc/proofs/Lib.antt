@@ -1,4 +1,5 @@
 pub mod Bounds
+pub mod Bytes
 mod Entries
 pub mod Linear
 pub mod Pieces

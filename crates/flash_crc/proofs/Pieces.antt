@@ -1,26 +1,20 @@
 -- Bytes are added to a remainder all at once, as one number, and a number is taken apart into its bytes.
 use Rattle.std.proofs.Common.{◌≡◌, ℕ, zero, suc, ◌+◌, ◌*◌, ◌^◌, ◌<◌, List, [], ◌∷◌, length, take, drop, get_or, bit_xor, refl, sym, ap, ◌∙◌, arith, lit<, length-take, length-drop}
 use Rattle.std.proofs.lemmas.List.{drop-drop, take-append-drop, take_all}
-use Rattle.std.proofs.lemmas.Nat.{xor_comm, xor_block, from_le_bytes-to_le_bytes_8}
-use Rattle.std.specs.Int.{w64, to_le_bytes}
+use Rattle.std.proofs.lemmas.Nat.{xor_comm, xor_block, from_le_bytes-to_le_bytes_8, le_bytes_8}
+use Rattle.std.specs.Int.{w64, to_le_bytes, from_le_bytes}
 use Rattle.std.specs.Int.Bits.{xor_assoc, xor_zero_l, xor_zero_r}
 use Rattle.std.specs.List.{fold}
 use Rattle.std.specs.Simd.{first_chunks}
+use Rattle.flash_crc.specs.Bytes.{IsBytes}
 use Rattle.flash_crc.specs.Crc32c.{after_bits, remainder}
-use Rattle.flash_crc.specs.Word.{number}
+use Rattle.flash_crc.proofs.Bytes.{in_front, behind}
 use Rattle.flash_crc.proofs.Linear.{linear, in_turn, shifted, from_zero, beside, joined, halves}
 
--- the pieces of a list of bytes are lists of bytes
-in_front : (n : ℕ) (bytes : List ℕ) → ((i : ℕ) → get_or bytes i 0 < 256) → (i : ℕ) → get_or (take n bytes) i 0 < 256
-in_front zero bytes each i = lit< tt
-in_front (suc n) [] each i = lit< tt
-in_front (suc n) (byte ∷ rest) each zero = each zero
-in_front (suc n) (byte ∷ rest) each (suc i) = in_front n rest (λ j. each (suc j)) i
-
-behind : (n : ℕ) (bytes : List ℕ) → ((i : ℕ) → get_or bytes i 0 < 256) → (i : ℕ) → get_or (drop n bytes) i 0 < 256
-behind zero bytes each i = each i
-behind (suc n) [] each i = lit< tt
-behind (suc n) (byte ∷ rest) each i = behind n rest (λ j. each (suc j)) i
+-- the number of these bytes, the lowest first
+abbrev pub low_first : List ℕ → ℕ
+low_first [] = 0
+low_first (byte ∷ rest) = low_first rest * 256 + byte
 
 -- a byte below a number that is moved up by eight bits
 low_byte : (high byte : ℕ) → byte < 256 → high * 256 + byte ≡ bit_xor byte (high * 256)
@@ -34,11 +28,11 @@ low_byte high byte small =
     ∙ ap (λ (x : ℕ). x * 256 + byte) (xor_zero_l high))
 
 -- the bytes are added all at once
-pub at_once : (r : ℕ) (bytes : List ℕ) → ((i : ℕ) → get_or bytes i 0 < 256) → remainder r bytes ≡ after_bits (8 * length bytes) (bit_xor r (number bytes))
+pub at_once : (r : ℕ) (bytes : List ℕ) → IsBytes bytes → remainder r bytes ≡ after_bits (8 * length bytes) (bit_xor r (low_first bytes))
 unfolding after_bits
 at_once r [] each = sym (xor_zero_r r)
 at_once r (byte ∷ rest) each =
-    let high = number rest in
+    let high = low_first rest in
     let n = 8 * length rest in
     let count : 8 + n ≡ 8 * length (byte ∷ rest) = omega arith in
     let added : bit_xor r (high * 256 + byte) ≡ bit_xor (bit_xor r byte) (high * 256) =
@@ -67,7 +61,7 @@ each_apart zeros (byte ∷ rest) =
     ∙ ap (λ (x : ℕ). bit_xor x (apart zeros rest))
     (sym (in_turn (8 * n) (8 * zeros) (after_bits 8 byte)) ∙ sym (in_turn 8 (8 * n + 8 * zeros) byte) ∙ ap (λ (k : ℕ). after_bits k byte) count)
 
-eight_bytes : (w i : ℕ) → get_or (to_le_bytes w64 w) i 0 < 256
+eight_bytes : (w : ℕ) → IsBytes (to_le_bytes w64 w)
 eight_bytes w zero = omega arith
 eight_bytes w (suc zero) = omega arith
 eight_bytes w (suc (suc zero)) = omega arith
@@ -78,8 +72,15 @@ eight_bytes w (suc (suc (suc (suc (suc (suc zero)))))) = omega arith
 eight_bytes w (suc (suc (suc (suc (suc (suc (suc zero))))))) = omega arith
 eight_bytes w (suc (suc (suc (suc (suc (suc (suc (suc i)))))))) = lit< tt
 
-number_of_word : (w : ℕ) → w < 2 ^ 64 → number (to_le_bytes w64 w) ≡ w
+number_of_word : (w : ℕ) → w < 2 ^ 64 → low_first (to_le_bytes w64 w) ≡ w
 number_of_word w fits = omega (arith, from_le_bytes-to_le_bytes_8 w fits)
+
+-- eight bytes as one number
+word_of_bytes : (bytes : List ℕ) → length bytes ≡ 8 → IsBytes bytes → low_first bytes ≡ from_le_bytes w64 bytes
+word_of_bytes bytes size each =
+    let n = from_le_bytes w64 bytes in
+    let fits : n < 2 ^ 64 = omega (arith, each 0, each 1, each 2, each 3, each 4, each 5, each 6, each 7) in
+    ap low_first (sym (le_bytes_8 bytes n size each refl)) ∙ number_of_word n fits
 
 -- a number of eight bytes, each of them by itself
 word_apart : (zeros word : ℕ) → word < 2 ^ 64 → apart zeros (to_le_bytes w64 word) ≡ after_bits (8 * zeros + 64) word
@@ -110,28 +111,32 @@ word_from zeros word bytes fits is a b c d e f g h a_is b_is c_is d_is e_is f_is
     regroup a b c d e f g h ∙ rw (is_a, is_b, is_c, is_d, is_e, is_f, is_g, is_h) (word_apart zeros word fits)
 
 -- sixteen bytes as two numbers
-pub two_words : (r : ℕ) (bytes : List ℕ) → length bytes ≡ 16 → ((i : ℕ) → get_or bytes i 0 < 256)
-    → remainder r bytes ≡ bit_xor (after_bits 64 (number (take 8 (drop 8 bytes)))) (after_bits 128 (bit_xor (number (take 8 bytes)) r))
+pub two_words : (r : ℕ) (bytes : List ℕ) → length bytes ≡ 16 → IsBytes bytes
+    → remainder r bytes ≡ bit_xor (after_bits 64 (from_le_bytes w64 (take 8 (drop 8 bytes)))) (after_bits 128 (bit_xor (from_le_bytes w64 (take 8 bytes)) r))
 two_words r bytes size each =
     let front = take 8 bytes in
     let back = drop 8 bytes in
     let front_size : length front ≡ 8 = omega (arith, length-take 8 bytes) in
     let back_size : length back ≡ 8 = omega (arith, length-drop 8 bytes) in
-    let front_is : remainder r front ≡ after_bits 64 (bit_xor (number front) r) =
+    let first = from_le_bytes w64 front in
+    let second = from_le_bytes w64 (take 8 back) in
+    let front_is : remainder r front ≡ after_bits 64 (bit_xor first r) =
     at_once r front (in_front 8 bytes each)
-    ∙ ap (λ (n : ℕ). after_bits (8 * n) (bit_xor r (number front))) front_size
-    ∙ ap (after_bits 64) (xor_comm r (number front)) in
-    let back_is : remainder 0 back ≡ after_bits 64 (number (take 8 back)) =
+    ∙ ap (λ (n : ℕ). after_bits (8 * n) (bit_xor r (low_first front))) front_size
+    ∙ ap (λ (n : ℕ). after_bits 64 (bit_xor r n)) (word_of_bytes front front_size (in_front 8 bytes each))
+    ∙ ap (after_bits 64) (xor_comm r first) in
+    let back_is : remainder 0 back ≡ after_bits 64 second =
     at_once 0 back (behind 8 bytes each)
-    ∙ ap (λ (n : ℕ). after_bits (8 * n) (number back)) back_size
-    ∙ ap (λ (l : List ℕ). after_bits 64 (number l)) (sym (take_all 8 back (omega arith))) in
+    ∙ ap (λ (n : ℕ). after_bits (8 * n) (low_first back)) back_size
+    ∙ ap (after_bits 64) (word_of_bytes back back_size (behind 8 bytes each))
+    ∙ ap (λ (l : List ℕ). after_bits 64 (from_le_bytes w64 l)) (sym (take_all 8 back (omega arith))) in
     ap (remainder r) (sym (take-append-drop 8 bytes))
     ∙ halves r front back
     ∙ ap (λ (n : ℕ). bit_xor (after_bits (8 * n) (remainder r front)) (remainder 0 back)) back_size
     ∙ ap (λ (x : ℕ). bit_xor (after_bits 64 x) (remainder 0 back)) front_is
-    ∙ ap (λ (x : ℕ). bit_xor x (remainder 0 back)) (sym (in_turn 64 64 (bit_xor (number front) r)))
-    ∙ ap (bit_xor (after_bits 128 (bit_xor (number front) r))) back_is
-    ∙ xor_comm (after_bits 128 (bit_xor (number front) r)) (after_bits 64 (number (take 8 back)))
+    ∙ ap (λ (x : ℕ). bit_xor x (remainder 0 back)) (sym (in_turn 64 64 (bit_xor first r)))
+    ∙ ap (bit_xor (after_bits 128 (bit_xor first r))) back_is
+    ∙ xor_comm (after_bits 128 (bit_xor first r)) (after_bits 64 second)
 
 -- whole blocks, and then the bytes behind them
 pub blocks_joined : (r k : ℕ) (bytes : List ℕ) → remainder (fold remainder r (first_chunks 16 k bytes)) (drop (k * 16) bytes) ≡ remainder r bytes

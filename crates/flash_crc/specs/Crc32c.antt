@@ -1,4 +1,4 @@
--- CRC-32C (Castagnoli; RFC 3720, appendix B.4): the remainder by a polynomial, taken bit by bit. The lowest
+-- CRC-32C (Castagnoli; RFC 3720, section 12.1): the remainder by a polynomial, taken bit by bit. The lowest
 -- bit of a byte comes first, so a remainder of 32 bits is kept with its bits reversed as well.
 use Rattle.std.specs.Prelude.{ℕ, zero, suc, ◌/◌, ◌%◌, List, [], ◌∷◌, bit_xor, nat_eq, if◌then◌else◌}
 

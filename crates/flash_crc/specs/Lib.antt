@@ -1,2 +1,2 @@
+pub mod Bytes
 pub mod Crc32c
-pub mod Word

@@ -1,6 +1,6 @@
 ghost use Rattle.std.specs.Prelude.{◌≡◌, ◌+◌, ◌*◌, ◌≤◌, take, drop, bit_xor};
 ghost use Rattle.flash_crc.specs.Crc32c.{after_bits, remainder};
-ghost use Rattle.flash_crc.specs.Word.{number};
+ghost use Rattle.std.specs.Int.{w64, from_le_bytes};
 
 use crate::tables::remainder_of;
 
@@ -26,7 +26,7 @@ pub fn after_byte(start: u32, byte: u8) -> u32
 #[inline(always)]
 fn word(block: &[u8; 16], at: usize) -> u64
     requires { at + 8 ≤ 16 }
-    ensures { result ≡ number (take 8 (drop at block.now)) }
+    ensures { result ≡ from_le_bytes w64 (take 8 (drop at block.now)) }
 {
     u64::from_le_bytes([
         block[at],

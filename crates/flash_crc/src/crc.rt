@@ -62,19 +62,20 @@ fn after_bytes(start: u32, bytes: &[u8]) -> u32
     ensures { result ≡ remainder start bytes.now }
 {
     let (blocks, rest) = bytes.as_chunks::<16>();
-    let mut r = start;
+    let mut remainder = start;
     'whole: for block in blocks {
-        r = after_block(r, block);
+        remainder = after_block(remainder, block);
     }
-    after_few(r, rest)
+    after_each(remainder, rest)
 }
 
-fn after_few(start: u32, bytes: &[u8]) -> u32
+// The remainder after these bytes, one at a time.
+fn after_each(start: u32, bytes: &[u8]) -> u32
     ensures { result ≡ remainder start bytes.now }
 {
-    let mut r = start;
+    let mut remainder = start;
     'bytes: for byte in bytes {
-        r = after_byte(r, *byte);
+        remainder = after_byte(remainder, *byte);
     }
-    r
+    remainder
 }

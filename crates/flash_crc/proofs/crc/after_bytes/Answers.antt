@@ -13,8 +13,8 @@ returns c =
     let count = length bytes / 16 in
     let at : c.whole.block-index ≡ length blocks = omega arith in
     let over : drop c.whole.block-index blocks ≡ [] = ap (λ (n : ℕ). drop n blocks) at ∙ drop-length blocks in
-    let whole : c.whole.r ≡ fold remainder start blocks = ap (fold remainder c.whole.r) (sym over) ∙ c.whole.invariant in
-    c.after_few.ensures
-    ∙ ap (remainder c.whole.r) c.as_chunks.ensures.back
+    let whole : c.whole.remainder ≡ fold remainder start blocks = ap (fold remainder c.whole.remainder) (sym over) ∙ c.whole.invariant in
+    c.after_each.ensures
+    ∙ ap (remainder c.whole.remainder) c.as_chunks.ensures.back
     ∙ ap (λ (r : ℕ). remainder r (drop (count * 16) bytes)) (whole ∙ ap (fold remainder start) c.as_chunks.ensures.front)
     ∙ blocks_joined start count bytes

@@ -5,4 +5,4 @@ use Rattle.flash_crc.proofs.crc.after_bytes.Given as goal
 
 -- the blocks that are left complete the remainder
 abbrev pub invariant-whole : goal.invariant-whole
-invariant-whole l = fold remainder l.r (drop l.block-index l.blocks) ≡ fold remainder l.fn.start l.blocks
+invariant-whole l = fold remainder l.remainder (drop l.block-index l.blocks) ≡ fold remainder l.fn.start l.blocks
