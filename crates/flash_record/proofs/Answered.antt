@@ -4,7 +4,7 @@ use Rattle.flash_record.specs.declared.not_record.NotRecord.{NotRecord}
 use Rattle.flash_record.specs.declared.reading.Record.{Record}
 use Rattle.flash_record.specs.Record.{Parts, Fits, record_bytes, record_length}
 use Rattle.flash_record.specs.Reading.{read, parts_of, Gives}
-use Rattle.flash_record.proofs.Bytes.{IsBytes}
+use Rattle.flash_crc.specs.Bytes.{IsBytes}
 use Rattle.flash_record.proofs.Found.{stands}
 use Rattle.flash_record.proofs.Places.{read_again}
 use Rattle.flash_record.proofs.Order.{only_passing}

@@ -1,26 +1,11 @@
--- Lists of bytes, and their pieces.
-use Rattle.std.proofs.Common.{◌≡◌, ℕ, zero, suc, ◌+◌, ◌^◌, ◌<◌, ◌≤◌, List, [], ◌∷◌, ◌++◌, length, take, drop, get_or, refl, sym, ap, ◌∙◌, arith, lit<, length-drop, length-take}
+-- The pieces of lists of bytes, and the numbers that begin in them.
+use Rattle.std.proofs.Common.{◌≡◌, ℕ, ◌+◌, ◌^◌, ◌<◌, ◌≤◌, List, ◌++◌, length, take, drop, refl, sym, ap, ◌∙◌, arith, length-drop, length-take}
 use Rattle.std.proofs.lemmas.List.{drop-drop, take-append-drop}
 use Rattle.std.proofs.lemmas.Nat.{be_bytes_4, be_bytes_8}
 use Rattle.std.specs.Int.{to_be_bytes, w32, w64}
+use Rattle.flash_crc.specs.Bytes.{IsBytes}
+use Rattle.flash_crc.proofs.Bytes.{in_front, behind}
 use Rattle.flash_record.specs.Reading.{number_at}
-
-abbrev pub IsBytes : List ℕ → Type 0
-IsBytes bytes = (i : ℕ) → get_or bytes i 0 < 256
-
-none : IsBytes []
-none i = lit< tt
-
-pub in_front : (n : ℕ) (bytes : List ℕ) → IsBytes bytes → IsBytes (take n bytes)
-in_front zero bytes each i = none i
-in_front (suc n) [] each i = none i
-in_front (suc n) (byte ∷ rest) each zero = each zero
-in_front (suc n) (byte ∷ rest) each (suc i) = in_front n rest (λ j. each (suc j)) i
-
-pub behind : (n : ℕ) (bytes : List ℕ) → IsBytes bytes → IsBytes (drop n bytes)
-behind zero bytes each i = each i
-behind (suc n) [] each i = none i
-behind (suc n) (byte ∷ rest) each i = behind n rest (λ j. each (suc j)) i
 
 -- the bytes from one place to another, and those from there on
 pub piece : (from n to : ℕ) (bytes : List ℕ) → from + n ≡ to → drop from bytes ≡ take n (drop from bytes) ++ drop to bytes

@@ -1,24 +1,21 @@
 -- What was read stands at the front.
 use Rattle.std.proofs.Common.{◌≡◌, ℕ, ◌+◌, ◌<◌, ◌≤◌, List, [], ◌∷◌, ◌++◌, length, take, drop, get_or, Bool, true, false, ◌||◌, ◌&&◌, nat_le, nat_eq, refl, sym, ap, ◌∙◌, arith, append_assoc, length-drop, length-take}
-use Rattle.std.proofs.lemmas.Bool.{ltb-false, lt-leb, leb-true, eqb-true}
+use Rattle.std.proofs.lemmas.Bool.{and_parts, ltb-false, lt-leb, leb-true, eqb-true}
 use Rattle.std.proofs.lemmas.List.{take_at}
 use Rattle.std.specs.Int.{to_be_bytes, w32, w64}
 use Rattle.flash_crc.specs.Crc32c.{crc32c}
 use Rattle.flash_record.specs.Record.{Parts, Fits, content, record_bytes, record_length}
-use Rattle.flash_record.specs.Reading.{number_at, is_at, has_magic, key_length, value_length, checksum_place, parts_at}
-use Rattle.flash_record.proofs.Bytes.{IsBytes, piece, number_32, number_64, fits_32, fits_64}
+use Rattle.flash_record.specs.Reading.{number_at, agrees_at, agrees_with_magic, key_length, value_length, checksum_place, parts_at}
+use Rattle.flash_crc.specs.Bytes.{IsBytes}
+use Rattle.flash_record.proofs.Bytes.{piece, number_32, number_64, fits_32, fits_64}
 use Rattle.flash_record.proofs.Places.{content_length}
 use Rattle.flash_record.proofs.Order.{Passes}
-
-both : (a b : Bool) → a && b ≡ true → (a ≡ true) × (b ≡ true)
-both true b is = (refl, is)
-both false b is = absurd (cc is)
 
 second : (a b : Bool) → a ≡ false → (a || b) ≡ true → b ≡ true
 second true b false_is holds = absurd (cc false_is)
 second false b false_is holds = holds
 
-at_place : (bytes : List ℕ) (place byte : ℕ) → place < length bytes → is_at bytes place byte ≡ true → get_or bytes place 0 ≡ byte
+at_place : (bytes : List ℕ) (place byte : ℕ) → place < length bytes → agrees_at bytes place byte ≡ true → get_or bytes place 0 ≡ byte
 at_place bytes place byte within is =
     eqb-true _ _ (second (nat_le (length bytes) place) (nat_eq (get_or bytes place 0) byte) (lt-leb _ _ within) is)
 
@@ -30,10 +27,10 @@ magic_bytes (w ∷ x ∷ y ∷ []) long a b c = absurd (omega arith)
 magic_bytes (w ∷ x ∷ y ∷ z ∷ rest) long a b c =
     ap (λ (n : ℕ). n ∷ x ∷ y ∷ z ∷ rest) a ∙ ap (λ (n : ℕ). 0x46 ∷ n ∷ y ∷ z ∷ rest) b ∙ ap (λ (n : ℕ). 0x46 ∷ 0x52 ∷ n ∷ z ∷ rest) c
 
-magic_is : (bytes : List ℕ) → 4 ≤ length bytes → has_magic bytes ≡ true → bytes ≡ 0x46 ∷ 0x52 ∷ 0x01 ∷ key_length bytes ∷ drop 4 bytes
+magic_is : (bytes : List ℕ) → 4 ≤ length bytes → agrees_with_magic bytes ≡ true → bytes ≡ 0x46 ∷ 0x52 ∷ 0x01 ∷ key_length bytes ∷ drop 4 bytes
 magic_is bytes long is =
-    let front = both (is_at bytes 0 0x46 && is_at bytes 1 0x52) (is_at bytes 2 0x01) is in
-    let two = both (is_at bytes 0 0x46) (is_at bytes 1 0x52) front.0 in
+    let front = and_parts (agrees_at bytes 0 0x46 && agrees_at bytes 1 0x52) (agrees_at bytes 2 0x01) is in
+    let two = and_parts (agrees_at bytes 0 0x46) (agrees_at bytes 1 0x52) front.0 in
     magic_bytes bytes long (at_place bytes 0 0x46 (omega arith) two.0) (at_place bytes 1 0x52 (omega arith) two.1) (at_place bytes 2 0x01 (omega arith) front.1)
 
 size_of : (n place : ℕ) (bytes : List ℕ) → place + n ≤ length bytes → length (take n (drop place bytes)) ≡ n
@@ -48,7 +45,7 @@ shape_is : (p : Parts) (back : List ℕ) → shape (length p.key) (length p.valu
 unfolding shape content
 shape_is p back = refl
 
-has_shape : (bytes : List ℕ) → IsBytes bytes → 28 ≤ length bytes → has_magic bytes ≡ true → bytes ≡ shape (key_length bytes) (value_length bytes) (parts_at bytes) (drop (checksum_place bytes) bytes)
+has_shape : (bytes : List ℕ) → IsBytes bytes → 28 ≤ length bytes → agrees_with_magic bytes ≡ true → bytes ≡ shape (key_length bytes) (value_length bytes) (parts_at bytes) (drop (checksum_place bytes) bytes)
 unfolding shape
 has_shape bytes each head magic =
     let p = parts_at bytes in
@@ -65,7 +62,7 @@ has_shape bytes each head magic =
     ∙ sym (append_assoc p.key p.value (drop place bytes)))))))
 
 -- the content stands at the front
-content_is : (bytes : List ℕ) → IsBytes bytes → 28 ≤ length bytes → checksum_place bytes ≤ length bytes → has_magic bytes ≡ true → bytes ≡ content (parts_at bytes) ++ drop (checksum_place bytes) bytes
+content_is : (bytes : List ℕ) → IsBytes bytes → 28 ≤ length bytes → checksum_place bytes ≤ length bytes → agrees_with_magic bytes ≡ true → bytes ≡ content (parts_at bytes) ++ drop (checksum_place bytes) bytes
 content_is bytes each head long magic =
     let p = parts_at bytes in
     let back = drop (checksum_place bytes) bytes in
@@ -82,7 +79,7 @@ stands bytes each passes =
     let place = checksum_place bytes in
     let head : 32 ≤ length bytes = ltb-false _ _ passes.head in
     let room : place + 4 ≤ length bytes = ltb-false _ _ passes.room in
-    let key = both (nat_le 1 (key_length bytes)) (nat_le (key_length bytes) 250) passes.key in
+    let key = and_parts (nat_le 1 (key_length bytes)) (nat_le (key_length bytes) 250) passes.key in
     let key_size : length p.key ≡ key_length bytes = size_of (key_length bytes) 28 bytes (omega arith) in
     let value_size : length p.value ≡ value_length bytes = size_of (value_length bytes) (28 + key_length bytes) bytes (omega arith) in
     let is : bytes ≡ content p ++ drop place bytes = content_is bytes each (omega arith) (omega arith) passes.magic in

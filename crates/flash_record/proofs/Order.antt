@@ -1,10 +1,11 @@
 -- What is read, by the tests in their order.
-use Rattle.std.proofs.Common.{◌≡◌, ℕ, ◌+◌, ◌<◌, ◌≤◌, List, length, Bool, true, false, not, ◌&&◌, nat_lt, nat_le, Result, Ok, Err, if◌then◌else◌, refl, arith}
+use Rattle.std.proofs.Common.{◌≡◌, ℕ, ◌+◌, ◌<◌, ◌≤◌, List, length, Bool, true, false, ◌&&◌, nat_lt, nat_le, Result, Ok, Err, if◌then◌else◌, refl, arith}
+use Rattle.std.proofs.lemmas.Bool.{not-false}
 use Rattle.std.proofs.lemmas.Bool.Decides.{nat_tests}
 use Rattle.flash_record.specs.declared.not_record.NotRecord.{NotRecord}
 use Rattle.flash_record.specs.declared.not_record.NotRecord.TheVariants.{End, Magic, Short, Lengths, Sum}
 use Rattle.flash_record.specs.Record.{Parts}
-use Rattle.flash_record.specs.Reading.{read, is_end, has_magic, key_length, checksum_place, has_checksum, parts_at}
+use Rattle.flash_record.specs.Reading.{read, is_end, agrees_with_magic, key_length, checksum_place, has_checksum, parts_at}
 
 -- the length of the key is one
 abbrev pub has_key : List ℕ → Bool
@@ -14,23 +15,23 @@ pub at_end : (bytes : List ℕ) → is_end bytes ≡ true → read bytes ≡ Err
 unfolding read
 at_end bytes a = rw a refl
 
-pub no_magic : (bytes : List ℕ) → is_end bytes ≡ false → has_magic bytes ≡ false → read bytes ≡ Err Magic
+pub no_magic : (bytes : List ℕ) → is_end bytes ≡ false → agrees_with_magic bytes ≡ false → read bytes ≡ Err Magic
 unfolding read
 no_magic bytes a b = rw (a, b) refl
 
-pub no_head : (bytes : List ℕ) → is_end bytes ≡ false → has_magic bytes ≡ true → nat_lt (length bytes) 32 ≡ true → read bytes ≡ Err Short
+pub no_head : (bytes : List ℕ) → is_end bytes ≡ false → agrees_with_magic bytes ≡ true → nat_lt (length bytes) 32 ≡ true → read bytes ≡ Err Short
 unfolding read
 no_head bytes a b c = rw (a, b, c) refl
 
-pub no_key : (bytes : List ℕ) → is_end bytes ≡ false → has_magic bytes ≡ true → nat_lt (length bytes) 32 ≡ false → has_key bytes ≡ false → read bytes ≡ Err Lengths
+pub no_key : (bytes : List ℕ) → is_end bytes ≡ false → agrees_with_magic bytes ≡ true → nat_lt (length bytes) 32 ≡ false → has_key bytes ≡ false → read bytes ≡ Err Lengths
 unfolding read
 no_key bytes a b c d = rw (a, b, c, d) refl
 
-pub no_room : (bytes : List ℕ) → is_end bytes ≡ false → has_magic bytes ≡ true → nat_lt (length bytes) 32 ≡ false → has_key bytes ≡ true → nat_lt (length bytes) (checksum_place bytes + 4) ≡ true → read bytes ≡ Err Short
+pub no_room : (bytes : List ℕ) → is_end bytes ≡ false → agrees_with_magic bytes ≡ true → nat_lt (length bytes) 32 ≡ false → has_key bytes ≡ true → nat_lt (length bytes) (checksum_place bytes + 4) ≡ true → read bytes ≡ Err Short
 unfolding read
 no_room bytes a b c d e = rw (a, b, c, d, e) refl
 
-pub no_checksum : (bytes : List ℕ) → is_end bytes ≡ false → has_magic bytes ≡ true → nat_lt (length bytes) 32 ≡ false → has_key bytes ≡ true → nat_lt (length bytes) (checksum_place bytes + 4) ≡ false → has_checksum bytes ≡ false → read bytes ≡ Err Sum
+pub no_checksum : (bytes : List ℕ) → is_end bytes ≡ false → agrees_with_magic bytes ≡ true → nat_lt (length bytes) 32 ≡ false → has_key bytes ≡ true → nat_lt (length bytes) (checksum_place bytes + 4) ≡ false → has_checksum bytes ≡ false → read bytes ≡ Err Sum
 unfolding read
 no_checksum bytes a b c d e f = rw (a, b, c, d, e, f) refl
 
@@ -43,22 +44,18 @@ long_key bytes high = grind (arith, nat_tests)
 pub good_key : (bytes : List ℕ) → 1 ≤ key_length bytes → key_length bytes ≤ 250 → has_key bytes ≡ true
 good_key bytes low high = grind (arith, nat_tests)
 
-pub all_pass : (bytes : List ℕ) → is_end bytes ≡ false → has_magic bytes ≡ true → nat_lt (length bytes) 32 ≡ false → has_key bytes ≡ true → nat_lt (length bytes) (checksum_place bytes + 4) ≡ false → has_checksum bytes ≡ true → read bytes ≡ Ok (parts_at bytes)
+pub all_pass : (bytes : List ℕ) → is_end bytes ≡ false → agrees_with_magic bytes ≡ true → nat_lt (length bytes) 32 ≡ false → has_key bytes ≡ true → nat_lt (length bytes) (checksum_place bytes + 4) ≡ false → has_checksum bytes ≡ true → read bytes ≡ Ok (parts_at bytes)
 unfolding read
 all_pass bytes a b c d e f = rw (a, b, c, d, e, f) refl
 
 -- the tests that a record passes
 pub record Passes (bytes : List ℕ) : Type 0 where
   pub begun : is_end bytes ≡ false
-  pub magic : has_magic bytes ≡ true
+  pub magic : agrees_with_magic bytes ≡ true
   pub head : nat_lt (length bytes) 32 ≡ false
   pub key : has_key bytes ≡ true
   pub room : nat_lt (length bytes) (checksum_place bytes + 4) ≡ false
   pub checksum : has_checksum bytes ≡ true
-
-not_true : (b : Bool) → not b ≡ false → b ≡ true
-not_true true is = refl
-not_true false is = absurd (cc is)
 
 same_parts : (x y : Parts) → ◌≡◌ {A = Result Parts NotRecord} (Ok x) (Ok y) → x ≡ y
 same_parts x y is = cc
@@ -79,11 +76,11 @@ only_passing bytes p is =
     let f = past _ _ _ p e.1 in (
       record {
         begun = a.0;
-        magic = not_true _ b.0;
+        magic = not-false _ b.0;
         head = c.0;
-        key = not_true _ d.0;
+        key = not-false _ d.0;
         room = e.0;
-        checksum = not_true _ f.0;
+        checksum = not-false _ f.0;
       },
       same_parts _ _ f.1,
     )

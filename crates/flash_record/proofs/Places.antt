@@ -1,14 +1,15 @@
 -- The places of a record's parts, and that what was written is read again.
-use Rattle.std.proofs.Common.{◌≡◌, ℕ, ◌+◌, ◌^◌, ◌<◌, List, ◌∷◌, ◌++◌, length, take, drop, Bool, true, false, ◌||◌, nat_le, subst, Ok, refl, sym, ap, ◌∙◌, arith, append_assoc, length-append}
-use Rattle.std.proofs.lemmas.Bool.{le-ltb, eq-eqb}
+use Rattle.std.proofs.Common.{◌≡◌, ℕ, ◌+◌, ◌^◌, ◌<◌, List, ◌∷◌, ◌++◌, length, take, drop, true, false, nat_le, subst, Ok, refl, sym, ap, ◌∙◌, arith, append_assoc, length-append}
+use Rattle.std.proofs.lemmas.Bool.{le-ltb, eq-eqb, or_right}
 use Rattle.std.proofs.lemmas.List.{take_at, drop_at, drop-drop}
 use Rattle.std.proofs.lemmas.Nat.{from_be_bytes-to_be_bytes_4, from_be_bytes-to_be_bytes_8}
 use Rattle.std.specs.Int.{to_be_bytes, from_be_bytes, w32, w64}
 use Rattle.flash_crc.specs.Crc32c.{crc32c}
 use Rattle.flash_record.specs.Record.{Parts, Fits, content, record_bytes, record_length}
-use Rattle.flash_record.specs.Reading.{read, number_at, is_end, has_magic, key_length, value_length, checksum_place, parts_at}
+use Rattle.flash_record.specs.Reading.{read, number_at, is_end, agrees_with_magic, key_length, value_length, checksum_place, parts_at}
 use Rattle.flash_crc.proofs.Bounds.{crc32c_fits}
-use Rattle.flash_record.proofs.Bytes.{IsBytes, in_front}
+use Rattle.flash_crc.specs.Bytes.{IsBytes}
+use Rattle.flash_crc.proofs.Bytes.{in_front}
 use Rattle.flash_record.proofs.Order.{good_key, all_pass}
 
 -- the value, the checksum and what follows
@@ -102,17 +103,13 @@ parts_are p rest fits =
     (version_is p back fits.version)
     (ap (λ (v : ℕ). take v (drop (28 + key_length bytes) bytes)) (value_length_is p back fits.value) ∙ ap (take (length p.value)) value_place ∙ value_at_front p rest)
 
-or_true : (b : Bool) → (b || true) ≡ true
-or_true true = refl
-or_true false = refl
-
 begun : (p : Parts) (l : List ℕ) → is_end (head p ++ l) ≡ false
 unfolding head
 begun p l = refl
 
-magic : (p : Parts) (l : List ℕ) → has_magic (head p ++ l) ≡ true
+magic : (p : Parts) (l : List ℕ) → agrees_with_magic (head p ++ l) ≡ true
 unfolding head
-magic p l = rw (or_true (nat_le (length (head p ++ l)) 0), or_true (nat_le (length (head p ++ l)) 1), or_true (nat_le (length (head p ++ l)) 2)) refl
+magic p l = rw (or_right (nat_le (length (head p ++ l)) 0) true refl, or_right (nat_le (length (head p ++ l)) 1) true refl, or_right (nat_le (length (head p ++ l)) 2) true refl) refl
 
 place_is : (p : Parts) (rest : List ℕ) → Fits p → checksum_place (record_bytes p ++ rest) ≡ 28 + length p.key + length p.value
 place_is p rest fits =
@@ -137,7 +134,7 @@ read_again p rest fits each =
     let key : key_length bytes ≡ length p.key = ap key_length (split p rest) ∙ key_length_is p (behind_head p rest) in
     all_pass bytes
     (ap is_end (split p rest) ∙ begun p (behind_head p rest))
-    (ap has_magic (split p rest) ∙ magic p (behind_head p rest))
+    (ap agrees_with_magic (split p rest) ∙ magic p (behind_head p rest))
     (le-ltb (length bytes) 32 (omega arith))
     (good_key bytes (omega (arith, fits.key.0)) (omega (arith, fits.key.1)))
     (le-ltb (length bytes) (place + 4) (omega arith))

@@ -13,20 +13,22 @@ is_end [] = true
 is_end (byte ∷ rest) = nat_eq byte 0
 
 -- the byte at this place isn't there, or it is this one
-abbrev pub is_at : List ℕ → ℕ → ℕ → Bool
-is_at bytes place byte = nat_le (length bytes) place || nat_eq (slice_index bytes place) byte
+abbrev pub agrees_at : List ℕ → ℕ → ℕ → Bool
+agrees_at bytes place byte = nat_le (length bytes) place || nat_eq (slice_index bytes place) byte
 
--- each of the first three bytes that are there is that of every record
-abbrev pub has_magic : List ℕ → Bool
-has_magic bytes = is_at bytes 0 0x46 && is_at bytes 1 0x52 && is_at bytes 2 0x01
+-- each of the first three bytes, as far as they are there, is that of every record
+abbrev pub agrees_with_magic : List ℕ → Bool
+agrees_with_magic bytes = agrees_at bytes 0 0x46 && agrees_at bytes 1 0x52 && agrees_at bytes 2 0x01
 
 -- the number that begins at this place, its highest byte first
 abbrev pub number_at : Width → ℕ → List ℕ → ℕ
 number_at width place bytes = from_be_bytes width (take (byte_len width) (drop place bytes))
 
+-- the key's length, as its byte says
 abbrev pub key_length : List ℕ → ℕ
 key_length bytes = slice_index bytes 3
 
+-- the value's length, as its field says
 abbrev pub value_length : List ℕ → ℕ
 value_length bytes = number_at w32 8 bytes
 
@@ -34,6 +36,7 @@ value_length bytes = number_at w32 8 bytes
 abbrev pub checksum_place : List ℕ → ℕ
 checksum_place bytes = 28 + key_length bytes + value_length bytes
 
+-- the parts that stand at their places, by these lengths
 abbrev pub parts_at : List ℕ → Parts
 parts_at bytes = record {
   key = take (key_length bytes) (drop 28 bytes);
@@ -47,10 +50,11 @@ parts_at bytes = record {
 abbrev pub has_checksum : List ℕ → Bool
 has_checksum bytes = nat_eq (number_at w32 (checksum_place bytes) bytes) (crc32c (take (checksum_place bytes) bytes))
 
+-- the parts of the record at the front, or the first of these faults
 unfoldable pub read : List ℕ → Result Parts NotRecord
 read bytes =
     if is_end bytes then Err End
-    else (if not (has_magic bytes) then Err Magic
+    else (if not (agrees_with_magic bytes) then Err Magic
     else (if nat_lt (length bytes) 32 then Err Short
     else (if not (nat_le 1 (key_length bytes) && nat_le (key_length bytes) 250) then Err Lengths
     else (if nat_lt (length bytes) (checksum_place bytes + 4) then Err Short
@@ -63,8 +67,8 @@ parts_of r = record { key = r.key.now; flags = r.flags; cas = r.cas; version = r
 
 -- what was answered is this
 abbrev pub Gives : Result Record NotRecord → Result Parts NotRecord → Type 0
-Gives (Ok r) read = read ≡ Ok (parts_of r)
-Gives (Err e) read = read ≡ Err e
+Gives (Ok r) expected = expected ≡ Ok (parts_of r)
+Gives (Err e) expected = expected ≡ Err e
 
 -- these bytes are the record of this key, CAS number and version, and of some flags and value
 abbrev pub IsRecordOf : List ℕ → List ℕ → ℕ → ℕ → Type 0

@@ -11,7 +11,7 @@ pub record Parts : Type 0 where
   pub version : ℕ
   pub value : List ℕ
 
--- what has a record: a key of 1 to 250 bytes, a value of fewer than 2^32, and numbers of their widths
+-- which parts have a record: a key of 1 to 250 bytes, a value of fewer than 2^32, and numbers of their widths
 pub record Fits (p : Parts) : Type 0 where
   pub key : (1 ≤ length p.key) × (length p.key ≤ 250)
   pub flags : p.flags < 2 ^ 32

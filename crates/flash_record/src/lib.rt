@@ -14,6 +14,7 @@
 #![tactic(auto)]
 
 mod laws;
+mod layout;
 mod not_record;
 mod reading;
 mod writing;

@@ -3,9 +3,9 @@
 pub enum NotRecord {
     /// There are no bytes, or the first is 0: the records of a block end here.
     End,
-    /// One of the first three bytes that are there isn't that of every record.
+    /// One of the first three bytes, as far as they are there, differs from `46 52 01`.
     Magic,
-    /// Bytes of the record lack.
+    /// There are fewer than 32 bytes, or fewer than the record's lengths ask for.
     Short,
     /// The length of the key is 0 or above 250.
     Lengths,

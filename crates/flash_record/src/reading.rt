@@ -1,9 +1,13 @@
 ghost use Rattle.std.specs.Prelude.{◌≡◌, ◌↔◌, ◌+◌, ◌≤◌, ℕ, List, ◌++◌, drop, length, Ok, IfOk, IsTrue, IsOk};
 ghost use Rattle.std.specs.Int.{w32, w64};
 ghost use Rattle.flash_record.specs.Record.{Parts, Fits, record_bytes, record_length};
-ghost use Rattle.flash_record.specs.Reading.{parts_of, read, is_end, has_magic, is_at, number_at, key_length as key_length_at, checksum_place, parts_at, has_checksum, Gives, IsRecordOf};
+ghost use Rattle.flash_record.specs.Reading.{parts_of, read, is_end, agrees_with_magic, agrees_at, number_at, key_length as key_length_at, checksum_place as checksum_place_at, parts_at, has_checksum, Gives, IsRecordOf};
 
 use crate::NotRecord;
+use crate::layout::{
+    CAS_OFFSET, CHECKSUM_LENGTH, FLAGS_OFFSET, HEAD_LENGTH, KEY_LENGTH_OFFSET, MAGIC,
+    VALUE_LENGTH_OFFSET, VERSION_OFFSET,
+};
 use flash_crc::crc32c;
 use flash_names::{Key, MAX_KEY_LEN};
 
@@ -20,13 +24,13 @@ pub struct Record<'a> {
     pub version: u64,
     /// The value.
     pub value: &'a [u8],
-    /// The bytes of the whole record.
+    /// How many bytes the whole record has.
     pub length: usize,
 }
 
 /// Reads the record at the front of these bytes. Others may follow it. The answer where there is none is
-/// the first of these that applies: `End`, `Magic`, `Short` where not even a record of no key and no value
-/// stands there, `Lengths`, `Short`, `Sum`.
+/// the first of these that applies: `End`, `Magic`, `Short` where there are fewer than 32 bytes, `Lengths`,
+/// `Short` where there are fewer than the lengths ask for, `Sum`.
 pub fn read_record(bytes: &[u8]) -> Result<Record<'_>, NotRecord>
     // What was read stands at the front.
     ensures found { IfOk result (λ r. Fits (parts_of r) × (bytes.now ≡ record_bytes (parts_of r) ++ drop r.length bytes.now)) }
@@ -49,52 +53,53 @@ fn first_of(bytes: &[u8]) -> Result<Record<'_>, NotRecord>
     if is_end(bytes) {
         return Err(NotRecord::End);
     }
-    if !has_magic(bytes) {
+    if !agrees_with_magic(bytes) {
         return Err(NotRecord::Magic);
     }
-    if bytes.len() < 32 {
+    if bytes.len() < HEAD_LENGTH + CHECKSUM_LENGTH {
         return Err(NotRecord::Short);
     }
-    let key_length = bytes[3] as usize;
+    let key_length = bytes[KEY_LENGTH_OFFSET] as usize;
     if key_length < 1 || key_length > MAX_KEY_LEN {
         return Err(NotRecord::Lengths);
     }
-    let value_length = u32_at(bytes, 8) as usize;
-    let end = 28 + key_length + value_length;
-    if bytes.len() < end + 4 {
+    let value_length = u32_at(bytes, VALUE_LENGTH_OFFSET) as usize;
+    let checksum_place = HEAD_LENGTH + key_length + value_length;
+    if bytes.len() < checksum_place + CHECKSUM_LENGTH {
         return Err(NotRecord::Short);
     }
-    if !has_checksum(bytes, end) {
+    if !has_checksum(bytes, checksum_place) {
         return Err(NotRecord::Sum);
     }
-    Ok(record_at(bytes, key_length, end))
+    Ok(record_at(bytes, key_length, checksum_place))
 }
 
-// The record whose checksum begins at `end`.
-fn record_at(bytes: &[u8], key_length: usize, end: usize) -> Record<'_>
+// The record whose checksum begins at `checksum_place`.
+fn record_at(bytes: &[u8], key_length: usize, checksum_place: usize) -> Record<'_>
     requires key { key_length ≡ key_length_at bytes.now }
-    requires end { end ≡ checksum_place bytes.now }
-    requires room { end + 4 ≤ length bytes.now }
+    requires place { checksum_place ≡ checksum_place_at bytes.now }
+    requires room { checksum_place + 4 ≤ length bytes.now }
     ensures parts { parts_of result ≡ parts_at bytes.now }
     ensures length { result.length ≡ record_length (parts_of result) }
     ensures within { result.length ≤ length bytes.now }
 {
     Record {
-        key: &bytes[28..28 + key_length],
-        flags: u32_at(bytes, 4),
-        cas: u64_at(bytes, 12),
-        version: u64_at(bytes, 20),
-        value: &bytes[28 + key_length..end],
-        length: end + 4,
+        key: &bytes[HEAD_LENGTH..HEAD_LENGTH + key_length],
+        flags: u32_at(bytes, FLAGS_OFFSET),
+        cas: u64_at(bytes, CAS_OFFSET),
+        version: u64_at(bytes, VERSION_OFFSET),
+        value: &bytes[HEAD_LENGTH + key_length..checksum_place],
+        length: checksum_place + CHECKSUM_LENGTH,
     }
 }
 
-fn has_checksum(bytes: &[u8], end: usize) -> bool
-    requires end { end ≡ checksum_place bytes.now }
-    requires room { end + 4 ≤ length bytes.now }
+// Whether the checksum there is that of the bytes before it.
+fn has_checksum(bytes: &[u8], checksum_place: usize) -> bool
+    requires place { checksum_place ≡ checksum_place_at bytes.now }
+    requires room { checksum_place + 4 ≤ length bytes.now }
     ensures { result ≡ has_checksum bytes.now }
 {
-    u32_at(bytes, end) == crc32c(&bytes[..end])
+    u32_at(bytes, checksum_place) == crc32c(&bytes[..checksum_place])
 }
 
 fn is_end(bytes: &[u8]) -> bool
@@ -106,14 +111,15 @@ fn is_end(bytes: &[u8]) -> bool
     }
 }
 
-fn has_magic(bytes: &[u8]) -> bool
-    ensures { result ≡ has_magic bytes.now }
+// Whether the first three bytes, as far as they are there, are those of every record.
+fn agrees_with_magic(bytes: &[u8]) -> bool
+    ensures { result ≡ agrees_with_magic bytes.now }
 {
-    is_at(bytes, 0, 0x46) && is_at(bytes, 1, 0x52) && is_at(bytes, 2, 0x01)
+    agrees_at(bytes, 0, MAGIC[0]) && agrees_at(bytes, 1, MAGIC[1]) && agrees_at(bytes, 2, MAGIC[2])
 }
 
-fn is_at(bytes: &[u8], place: usize, byte: u8) -> bool
-    ensures { result ≡ is_at bytes.now place byte }
+fn agrees_at(bytes: &[u8], place: usize, byte: u8) -> bool
+    ensures { result ≡ agrees_at bytes.now place byte }
 {
     bytes.len() <= place || bytes[place] == byte
 }

@@ -2,6 +2,7 @@ ghost use Rattle.std.specs.Prelude.{◌≡◌, ◌+◌, ◌^◌, ◌<◌, ◌≤
 ghost use Rattle.flash_record.specs.Record.{Parts, record_bytes, record_length, content};
 ghost use Rattle.flash_record.specs.Writing.{has_room};
 
+use crate::layout::{CHECKSUM_LENGTH, HEAD_LENGTH, MAGIC};
 use flash_crc::crc32c;
 use flash_names::Key;
 
@@ -26,13 +27,13 @@ pub fn write_record(
     if value.len() > u32::MAX as usize {
         return None;
     }
-    let length = 32 + key.len() + value.len();
+    let length = HEAD_LENGTH + CHECKSUM_LENGTH + key.len() + value.len();
     if length > into.len() {
         return None;
     }
-    let end = write_content(into, key, flags, cas, version, value);
-    let sum = crc32c(&into[..end]);
-    Some(put(into, end, &sum.to_be_bytes()))
+    let checksum_place = write_content(into, key, flags, cas, version, value);
+    let sum = crc32c(&into[..checksum_place]);
+    Some(put(into, checksum_place, &sum.to_be_bytes()))
 }
 
 // Writes all of the record but its checksum, and answers where that begins.
@@ -47,12 +48,12 @@ fn write_content(
     requires key { length key.now ≤ 250 }
     requires value { length value.now < 2 ^ 32 }
     requires room { 32 + length key.now + length value.now ≤ length into.old }
-    ensures end { result ≡ 28 + length key.now + length value.now }
+    ensures place { result ≡ 28 + length key.now + length value.now }
     ensures written { let p : Parts = record { key = key.now; flags = flags; cas = cas; version = version; value = value.now } in
         take result into.new ≡ content p }
     ensures rest { drop result into.new ≡ drop result into.old }
 {
-    let flags_at = put(into, 0, &[0x46, 0x52, 0x01, key.len() as u8]);
+    let flags_at = put(into, 0, &[MAGIC[0], MAGIC[1], MAGIC[2], key.len() as u8]);
     let length_at = put(into, flags_at, &flags.to_be_bytes());
     let cas_at = put(into, length_at, &(value.len() as u32).to_be_bytes());
     let version_at = put(into, cas_at, &cas.to_be_bytes());

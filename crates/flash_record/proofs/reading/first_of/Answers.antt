@@ -1,6 +1,6 @@
 use Rattle.std.proofs.Common.{◌≡◌, ◌+◌, length, true, false, nat_lt, Ok, ap, sym, ◌∙◌, arith}
 use Rattle.std.proofs.lemmas.Bool.{lt-ltb, le-ltb}
-use Rattle.flash_record.specs.Reading.{is_end, has_magic, checksum_place, has_checksum}
+use Rattle.flash_record.specs.Reading.{is_end, agrees_with_magic, checksum_place, has_checksum}
 use Rattle.flash_record.proofs.Order.{has_key, at_end, no_magic, no_head, no_key, no_room, no_checksum, all_pass, short_key, long_key, good_key}
 use Rattle.flash_record.proofs.reading.first_of.Goals as goal
 use Rattle.flash_record.proofs.reading.first_of.Goals.{then-key_length-lt1-via-then-key_length-lt1, then-key_length-lt1-via-else-key_length-lt1+then-key_length-gt-MAX_KEY_LEN}
@@ -11,37 +11,37 @@ returns-then-is_end-clause-exact c =
     let a : is_end bytes ≡ true = cc in
     at_end bytes a
 
-pub returns-then-not-has_magic-clause-exact : goal.returns-then-not-has_magic-clause-exact
-returns-then-not-has_magic-clause-exact c =
+pub returns-then-not-agrees_with_magic-clause-exact : goal.returns-then-not-agrees_with_magic-clause-exact
+returns-then-not-agrees_with_magic-clause-exact c =
     let bytes = c.args.bytes.now in
     let a : is_end bytes ≡ false = cc in
-    let b : has_magic bytes ≡ false = cc in
+    let b : agrees_with_magic bytes ≡ false = cc in
     no_magic bytes a b
 
-pub returns-then-bytes-lt32-clause-exact : goal.returns-then-bytes-lt32-clause-exact
-returns-then-bytes-lt32-clause-exact c =
+pub returns-then-bytes-clause-exact : goal.returns-then-bytes-clause-exact
+returns-then-bytes-clause-exact c =
     let bytes = c.args.bytes.now in
     let a : is_end bytes ≡ false = cc in
-    let b : has_magic bytes ≡ true = cc in
-    no_head bytes a b (lt-ltb _ _ c.if-bytes-lt32.true)
+    let b : agrees_with_magic bytes ≡ true = cc in
+    no_head bytes a b (lt-ltb _ _ c.if-bytes.true)
 
 pub returns-then-key_length-lt1-clause-exact : goal.returns-then-key_length-lt1-clause-exact
 returns-then-key_length-lt1-clause-exact c =
     let bytes = c.args.bytes.now in
     let a : is_end bytes ≡ false = cc in
-    let b : has_magic bytes ≡ true = cc in
-    let head : nat_lt (length bytes) 32 ≡ false = le-ltb _ _ c.if-bytes-lt32.false in
+    let b : agrees_with_magic bytes ≡ true = cc in
+    let head : nat_lt (length bytes) 32 ≡ false = le-ltb _ _ c.if-bytes.false in
     elim c.then-key_length-lt1.branch [
       | then-key_length-lt1-via-then-key_length-lt1 w ↦ no_key bytes a b head (short_key bytes (omega arith))
       | then-key_length-lt1-via-else-key_length-lt1+then-key_length-gt-MAX_KEY_LEN w ↦ no_key bytes a b head (long_key bytes (omega arith))
     ]
 
-pub returns-then-bytes-end-clause-exact : goal.returns-then-bytes-end-clause-exact
-returns-then-bytes-end-clause-exact c =
+pub returns-then-bytes-checksum_place-clause-exact : goal.returns-then-bytes-checksum_place-clause-exact
+returns-then-bytes-checksum_place-clause-exact c =
     let bytes = c.args.bytes.now in
     let a : is_end bytes ≡ false = cc in
-    let b : has_magic bytes ≡ true = cc in
-    let head : nat_lt (length bytes) 32 ≡ false = le-ltb _ _ c.if-bytes-lt32.false in
+    let b : agrees_with_magic bytes ≡ true = cc in
+    let head : nat_lt (length bytes) 32 ≡ false = le-ltb _ _ c.if-bytes.false in
     let key : has_key bytes ≡ true = good_key bytes (omega arith) (omega arith) in
     no_room bytes a b head key (lt-ltb _ _ (omega arith))
 
@@ -49,8 +49,8 @@ pub returns-then-not-has_checksum-clause-exact : goal.returns-then-not-has_check
 returns-then-not-has_checksum-clause-exact c =
     let bytes = c.args.bytes.now in
     let a : is_end bytes ≡ false = cc in
-    let b : has_magic bytes ≡ true = cc in
-    let head : nat_lt (length bytes) 32 ≡ false = le-ltb _ _ c.if-bytes-lt32.false in
+    let b : agrees_with_magic bytes ≡ true = cc in
+    let head : nat_lt (length bytes) 32 ≡ false = le-ltb _ _ c.if-bytes.false in
     let key : has_key bytes ≡ true = good_key bytes (omega arith) (omega arith) in
     let room : nat_lt (length bytes) (checksum_place bytes + 4) ≡ false = le-ltb _ _ (omega arith) in
     let sum : has_checksum bytes ≡ false = cc in
@@ -60,8 +60,8 @@ pub returns-clause-exact : goal.returns-clause-exact
 returns-clause-exact c =
     let bytes = c.args.bytes.now in
     let a : is_end bytes ≡ false = cc in
-    let b : has_magic bytes ≡ true = cc in
-    let head : nat_lt (length bytes) 32 ≡ false = le-ltb _ _ c.if-bytes-lt32.false in
+    let b : agrees_with_magic bytes ≡ true = cc in
+    let head : nat_lt (length bytes) 32 ≡ false = le-ltb _ _ c.if-bytes.false in
     let key : has_key bytes ≡ true = good_key bytes (omega arith) (omega arith) in
     let room : nat_lt (length bytes) (checksum_place bytes + 4) ≡ false = le-ltb _ _ (omega arith) in
     let sum : has_checksum bytes ≡ true = cc in
