@@ -8,10 +8,11 @@ use Rattle.std.proofs.Math.Seq.{take-length}
 use Rattle.std.specs.List.{position_from}
 use Rattle.flash_names.specs.declared.place.Label.{Label}
 use Rattle.flash_names.specs.declared.place.Place.{Place}
+use Rattle.flash_names.specs.Labels.{same_label}
 use Rattle.flash_record.specs.Record.{Parts, record_length, record_bytes}
 use Rattle.flash_record.proofs.Places.{record_bytes_length}
 use Rattle.flash_buffers.specs.Block.{Block, fits_in, parts_in, with_record, place_in, appended_in}
-use Rattle.flash_buffers.specs.Covering.{same_label, has_label, covers}
+use Rattle.flash_buffers.specs.Covering.{has_label, covers}
 use Rattle.flash_buffers.specs.BufferTable.{BufferTable, first_table, block_of, first_free, IsClear, dropped, first_block, read_of}
 use Rattle.flash_buffers.specs.Calls.{Call, takes, appends, seals, begins, writes, unwrites, drops, Allowed, after, with_taken, with_written}
 use Rattle.flash_buffers.specs.Law.{AllAllowed, after_all, Leaves, AllLeave}
@@ -33,7 +34,7 @@ fewer_apart : (size : ℕ) (was now : List (Option Block)) → Fewer size was no
 fewer_apart size was now fewer apart = λ n m label at one other. apart n m label at (fewer n label at one) (fewer m label at other)
 
 -- what stands at a place that was written, if there is such a place
-set_at : (blocks : List (Option Block)) (k : ℕ) (block : Option Block) → (get_or (set blocks k block) k None ≡ block) ⊎ (get_or (set blocks k block) k None ≡ None)
+pub set_at : (blocks : List (Option Block)) (k : ℕ) (block : Option Block) → (get_or (set blocks k block) k None ≡ block) ⊎ (get_or (set blocks k block) k None ≡ None)
 set_at [] zero block = inr refl
 set_at [] (suc k) block = inr refl
 set_at (first ∷ rest) zero block = inl refl
@@ -221,7 +222,7 @@ all_read t place bytes n (call ∷ rest) some may leave apart holds =
     all_read (after call t) place bytes n rest some may.1 leave.1 (step_apart t call may.0 apart) (step_holds t place bytes n call may.0 leave.0 holds)
 
 -- the size of the buffers stays
-step_size : (t : BufferTable) (call : Call) → (after call t).size ≡ t.size
+pub step_size : (t : BufferTable) (call : Call) → (after call t).size ≡ t.size
 step_size t (takes label offset) = taken (first_free t) where
   taken : (number : Option ℕ) → (with_taken t label offset number).size ≡ t.size
   taken None = refl
@@ -248,7 +249,7 @@ all_apart t (call ∷ rest) second may apart = all_apart (after call t) rest sec
 abbrev none_of : ℕ → List (Option Block)
 none_of n = replicate n None
 
-none_at : (n k : ℕ) → get_or (none_of n) k None ≡ None
+pub none_at : (n k : ℕ) → get_or (none_of n) k None ≡ None
 none_at zero k = refl
 none_at (suc n) zero = refl
 none_at (suc n) (suc k) = none_at n k

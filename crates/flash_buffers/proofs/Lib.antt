@@ -2,6 +2,8 @@ pub mod BufferLemmas
 pub mod DropLemmas
 pub mod LawLemmas
 pub mod LineLemmas
+pub mod OrderLemmas
 pub mod Pigeonhole
 pub mod ReadLemmas
+pub mod RecordsLemmas
 pub mod SoundLemmas

@@ -64,7 +64,7 @@ all_out t job [] may rests is = is
 all_out t job (call ∷ rest) may rests is = all_out (after call t) job rest may.1 rests.1 (step_out t job t.line call refl may.0 rests.0 is.out is.job_is)
 
 -- one call keeps the order
-step_order : (t : BufferTable) (call : Call) → DropsNone call → t.line ++ sealed_by call ≡ written_by t call ++ (after call t).line
+pub step_order : (t : BufferTable) (call : Call) → DropsNone call → t.line ++ sealed_by call ≡ written_by t call ++ (after call t).line
 step_order t (takes label offset) stays = taken (first_free t) where
   taken : (number : Option ℕ) → t.line ++ [] ≡ [] ++ (with_taken t label offset number).line
   taken None = append-nil t.line

@@ -1,21 +1,18 @@
 -- What a place is read as, where one buffer alone covers it.
 use Rattle.std.proofs.Common.{◌≡◌, ℕ, zero, suc, ◌+◌, ◌-◌, ◌<◌, ◌≤◌, Bool, true, false, cond, ◌&&◌, nat_eq, nat_le, List, [], ◌∷◌, ◌++◌, length, get_or, take, drop, replicate, Option, None, Some, refl, sym, ap, ◌∙◌, subst, arith, length-drop}
 use Rattle.std.proofs.lemmas.Bool.Decides.{nat_tests}
-use Rattle.std.proofs.lemmas.Bool.{leb-true, le-leb, eqb-true}
+use Rattle.std.proofs.lemmas.Bool.{and_parts, leb-true, le-leb, eqb-true}
 use Rattle.std.proofs.lemmas.List.{drop-append-le, take-append-le}
 use Rattle.flash_names.specs.declared.place.Label.{Label}
 use Rattle.flash_names.specs.declared.place.Place.{Place}
+use Rattle.flash_names.specs.Labels.{same_label}
 use Rattle.flash_buffers.specs.Block.{Block}
-use Rattle.flash_buffers.specs.Covering.{same_label, covers, bytes_in, read_in}
-
-both : (a b : Bool) → a && b ≡ true → (a ≡ true) × (b ≡ true)
-both true b all = (refl, all)
-both false b all = absurd (cc all)
+use Rattle.flash_buffers.specs.Covering.{covers, bytes_in, read_in}
 
 -- two labels that the test takes for one are one
 pub label_is : (one other : Label) → same_label one other ≡ true → one ≡ other
 label_is one other same =
-    let parts = both (nat_eq one.page other.page) (nat_eq one.version other.version) same in
+    let parts = and_parts (nat_eq one.page other.page) (nat_eq one.version other.version) same in
     let page : one.page ≡ other.page = eqb-true _ _ parts.0 in
     let version : one.version ≡ other.version = eqb-true _ _ parts.1 in
     let first : one ≡ record { page = other.page; version = one.version } = ap (λ (n : ℕ). record { page = n; version = one.version }) page in
@@ -32,8 +29,8 @@ pub record Covering (size : ℕ) (place : Place) (block : Block) : Type 0 where
 
 pub covering : (size : ℕ) (place : Place) (block : Block) → covers size place (Some block) ≡ true → Covering size place block
 covering size place block is =
-    let outer = both (same_label block.label place.label && nat_le block.offset place.offset) (nat_le (place.offset + place.length) (block.offset + size)) is in
-    let inner = both (same_label block.label place.label) (nat_le block.offset place.offset) outer.0 in
+    let outer = and_parts (same_label block.label place.label && nat_le block.offset place.offset) (nat_le (place.offset + place.length) (block.offset + size)) is in
+    let inner = and_parts (same_label block.label place.label) (nat_le block.offset place.offset) outer.0 in
     record { label = inner.0; low = leb-true _ _ inner.1; high = leb-true _ _ outer.1 }
 
 pub covers_is : (size : ℕ) (place : Place) (block : Block) → Covering size place block → covers size place (Some block) ≡ true

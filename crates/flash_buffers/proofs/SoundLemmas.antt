@@ -1,6 +1,7 @@
 -- What each call keeps of the buffers, over their slots and their line.
-use Rattle.std.proofs.Common.{◌≡◌, ℕ, zero, suc, ◌^◌, ◌<◌, ◌≤◌, Bool, true, false, nat_eq, IsSome, List, [], ◌∷◌, ◌++◌, length, get_or, set, take, drop, replicate, All, Option, None, Some, refl, sym, ap, ◌∙◌, subst, arith, length-append, ◌||◌, inl, inr}
+use Rattle.std.proofs.Common.{◌≡◌, ℕ, zero, suc, ◌^◌, ◌<◌, ◌≤◌, Bool, false, nat_eq, IsSome, List, [], ◌∷◌, ◌++◌, length, get_or, set, take, drop, replicate, All, Option, None, Some, refl, sym, ap, ◌∙◌, subst, arith, length-append, inl, inr}
 use Rattle.std.proofs.Math.ListN.{get_or-map}
+use Rattle.std.proofs.lemmas.Bool.{or_parts}
 use Rattle.std.proofs.lemmas.Bool.Decides.{nat_tests, eqb_tells}
 use Rattle.std.proofs.lemmas.List.{map-set, length-map, length-set, get_or-set_other, length-replicate, get_or-replicate}
 use Rattle.std.proofs.lemmas.Grind.{get_or-set_at}
@@ -62,15 +63,11 @@ apart_push : (m n : ℕ) (rest : List ℕ) → nat_eq m n ≡ false → AllByRec
 apart_push m n [] differ apart = (differ, tt)
 apart_push m n (y ∷ rest) differ apart = (apart.0, apart_push m n rest differ apart.1)
 
-either : (a b : Bool) → a || b ≡ false → (a ≡ false) × (b ≡ false)
-either true b none = absurd (cc none)
-either false b none = (refl, none)
-
 distinct_push : (line : List ℕ) (n : ℕ) → list_any (λ m. nat_eq m n) line ≡ false → IsDistinct nat_eq line → IsDistinct nat_eq (line ++ n ∷ [])
 unfolding IsDistinct
 distinct_push [] n none distinct = (tt, tt)
 distinct_push (m ∷ rest) n none distinct =
-    let parts = either (nat_eq m n) (list_any (λ y. nat_eq y n) rest) none in
+    let parts = or_parts (nat_eq m n) (list_any (λ y. nat_eq y n) rest) none in
     (apart_push m n rest parts.0 distinct.0, distinct_push rest n parts.1 distinct.1)
 
 pub below_of : (slots : List Slot) (line : List ℕ) → AllByRecursion (IsTaken slots) line → AllByRecursion (λ n. n < length slots) line

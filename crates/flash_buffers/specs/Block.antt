@@ -46,9 +46,10 @@ abbrev pub with_record : ℕ → Parts → Block → Block
 with_record size p block =
     if fits_in size (record_length p) block then record block { records = block.records ++ record_bytes p } else block
 
--- the same of a buffer, where it is taken
+-- the place of the record in a buffer, where it is taken and the record fits
 abbrev pub place_in : ℕ → List ℕ → ℕ → ℕ → List ℕ → Option Block → Option Place
 place_in size key flags cas value block = option_and_then (λ b. next_place size (parts_in key flags cas value b) b) block
 
+-- a buffer's block with the record behind the others, where it is taken and the record fits
 abbrev pub appended_in : ℕ → List ℕ → ℕ → ℕ → List ℕ → Option Block → Option Block
 appended_in size key flags cas value block = option_map (λ b. with_record size (parts_in key flags cas value b) b) block

@@ -1,5 +1,4 @@
--- What the buffers are, as one record: their size, by number the block of each that is taken, the numbers of
--- the sealed ones in the order in which they are written, and whether the first of these is out.
+-- What the buffers are, and what they are before the first is taken.
 use Rattle.std.specs.Prelude.{◌≡◌, ℕ, ◌+◌, ◌<◌, ◌≤◌, Bool, false, is_none, nat_eq, List, [], ◌∷◌, length, replicate, slice_index_or, Option, None, IsSome, if◌then◌else◌}
 use Rattle.std.specs.List.{list_any, position_from}
 use Rattle.flash_names.specs.declared.place.Label.{Label}
@@ -7,6 +6,8 @@ use Rattle.flash_names.specs.declared.place.Place.{Place}
 use Rattle.flash_buffers.specs.Block.{Block, Slot}
 use Rattle.flash_buffers.specs.Covering.{has_label, covers, read_in}
 
+-- their size, by number the block of each that is taken, the numbers of the sealed ones in the order in which
+-- they are written, and whether the first of these is out
 pub record BufferTable : Type 0 where
   pub size : ℕ
   pub blocks : List (Option Block)

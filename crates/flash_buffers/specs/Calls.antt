@@ -1,4 +1,4 @@
--- The calls that change the buffers: when each may be made, what it answers, and what is after it.
+-- When each call may be made, what it answers, and what is after it.
 use Rattle.std.specs.Prelude.{◌≡◌, ℕ, ◌+◌, ◌^◌, ◌<◌, Bool, true, false, not, ◌||◌, is_some, nat_eq, List, [], ◌∷◌, ◌++◌, length, map, filter, slice_set, Option, None, Some, option_map, if◌then◌else◌}
 use Rattle.flash_names.specs.declared.place.Label.{Label}
 use Rattle.flash_buffers.specs.declared.buffers.WriteJob.{WriteJob}
@@ -6,6 +6,7 @@ use Rattle.flash_buffers.specs.Block.{Block, block_bytes, block_place, appended_
 use Rattle.flash_buffers.specs.Covering.{has_label}
 use Rattle.flash_buffers.specs.BufferTable.{BufferTable, block_of, first_free, dropped, IsOpen, IsClear, oldest}
 
+-- the calls that change the buffers, with what they are given
 pub data Call : Type 0 where
   takes : Label → ℕ → Call
   appends : ℕ → List ℕ → ℕ → ℕ → List ℕ → Call

@@ -1,11 +1,9 @@
 -- Which buffer a place is read from.
-use Rattle.std.specs.Prelude.{ℕ, ◌+◌, ◌-◌, Bool, false, ◌&&◌, nat_eq, nat_le, List, [], ◌∷◌, take, drop, Option, None, Some, if◌then◌else◌}
+use Rattle.std.specs.Prelude.{ℕ, ◌+◌, ◌-◌, Bool, false, ◌&&◌, nat_le, List, [], ◌∷◌, take, drop, Option, None, Some, if◌then◌else◌}
 use Rattle.flash_names.specs.declared.place.Label.{Label}
 use Rattle.flash_names.specs.declared.place.Place.{Place}
+use Rattle.flash_names.specs.Labels.{same_label}
 use Rattle.flash_buffers.specs.Block.{Block, block_bytes}
-
-abbrev pub same_label : Label → Label → Bool
-same_label one other = nat_eq one.page other.page && nat_eq one.version other.version
 
 -- whether the buffer is taken by a block of this label
 abbrev pub has_label : Label → Option Block → Bool

@@ -1,7 +1,8 @@
--- What any list of calls keeps: a record is read until its block was written or its page dropped.
-use Rattle.std.specs.Prelude.{◌≡◌, ℕ, false, List, [], ◌∷◌, ◌++◌, take}
+-- What any list of calls keeps: the records that are read, the job that is out, and the order of the line.
+use Rattle.std.specs.Prelude.{◌≡◌, ℕ, ◌^◌, ◌<◌, ◌≤◌, ◌⊎◌, false, List, [], ◌∷◌, ◌++◌, length, take}
 use Rattle.flash_names.specs.declared.place.Place.{Place}
-use Rattle.flash_buffers.specs.Covering.{same_label, covers}
+use Rattle.flash_names.specs.Labels.{same_label}
+use Rattle.flash_buffers.specs.Covering.{covers}
 use Rattle.flash_buffers.specs.BufferTable.{BufferTable, oldest}
 use Rattle.flash_buffers.specs.Calls.{Call, takes, appends, seals, begins, writes, unwrites, drops, Allowed, after}
 
@@ -60,7 +61,7 @@ abbrev pub AllDropNone : List Call → Type 0
 AllDropNone [] = Unit {0}
 AllDropNone (call ∷ rest) = DropsNone call × AllDropNone rest
 
--- the number of the buffer that the call seals, and of the one that it says was written
+-- the number of the buffer that the call seals
 abbrev pub sealed_by : Call → List ℕ
 sealed_by (takes label offset) = []
 sealed_by (appends number key flags cas value) = []
@@ -70,6 +71,7 @@ sealed_by (writes job) = []
 sealed_by (unwrites job) = []
 sealed_by (drops label) = []
 
+-- the number of the buffer that the call says was written
 abbrev pub written_by : BufferTable → Call → List ℕ
 written_by t (takes label offset) = []
 written_by t (appends number key flags cas value) = []
@@ -79,11 +81,33 @@ written_by t (writes job) = take 1 t.line
 written_by t (unwrites job) = []
 written_by t (drops label) = []
 
--- the same of all the calls, in their order
+-- the numbers of the buffers that all the calls seal, in their order
 abbrev pub all_sealed : List Call → List ℕ
 all_sealed [] = []
 all_sealed (call ∷ rest) = sealed_by call ++ all_sealed rest
 
+-- the numbers of the buffers that all the calls say were written, in their order
 abbrev pub all_written : BufferTable → List Call → List ℕ
 all_written t [] = []
 all_written t (call ∷ rest) = written_by t call ++ all_written (after call t) rest
+
+-- the call's numbers have the widths of their types, and its key is one
+abbrev pub HasWidths : Call → Type 0
+HasWidths (takes label offset) = label.version < 2 ^ 64
+HasWidths (appends number key flags cas value) = ((1 ≤ length key) × (length key ≤ 250)) × (flags < 2 ^ 32) × (cas < 2 ^ 64)
+HasWidths (seals number) = Unit {0}
+HasWidths begins = Unit {0}
+HasWidths (writes job) = Unit {0}
+HasWidths (unwrites job) = Unit {0}
+HasWidths (drops label) = Unit {0}
+
+-- each of the calls does
+abbrev pub AllHaveWidths : List Call → Type 0
+AllHaveWidths [] = Unit {0}
+AllHaveWidths (call ∷ rest) = HasWidths call × AllHaveWidths rest
+
+-- the second list with some of its numbers left out is the first
+abbrev pub IsPartOf : List ℕ → List ℕ → Type 0
+IsPartOf [] all = Unit {0}
+IsPartOf (number ∷ rest) [] = ⊥
+IsPartOf (number ∷ rest) (next ∷ all) = ((number ≡ next) × IsPartOf rest all) ⊎ IsPartOf (number ∷ rest) all

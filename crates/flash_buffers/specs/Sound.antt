@@ -1,10 +1,11 @@
--- What the buffers keep: each has the same size, and the line names taken ones, none twice, with room for all.
+-- What the buffers keep.
 use Rattle.std.specs.Prelude.{◌≡◌, ℕ, ◌^◌, ◌<◌, ◌≤◌, List, length, All, nat_eq, slice_index_or, None, Some, IsSome, true}
 use Rattle.std.specs.List.{AllByRecursion, IsDistinct}
 use Rattle.flash_names.specs.declared.place.Place.{Place}
 use Rattle.flash_buffers.specs.Block.{Slot, blocks_in}
 use Rattle.flash_buffers.specs.Covering.{covers, bytes_in, read_in}
 
+-- what is read behind the last buffer
 abbrev pub free_slot : Slot
 free_slot = record { size = 0; block = None }
 
@@ -18,6 +19,8 @@ pub record Covers (size : ℕ) (place : Place) (slots : List Slot) (number : ℕ
   pub covers : covers size place (slice_index_or slots number free_slot).block ≡ true
   pub read : read_in size place (blocks_in slots) ≡ Some (bytes_in size place (slice_index_or slots number free_slot).block)
 
+-- the buffers and their line are as `Buffers` keeps them: one size, fewer than 2^32, room in the line for each,
+-- and in it taken ones alone, each once
 pub record IsSound (size : ℕ) (slots : List Slot) (line : List ℕ) (room : ℕ) : Type 0 where
   pub sizes : All (λ slot. slot.size ≡ size) slots
   pub few : length slots < 2 ^ 32

@@ -2,7 +2,7 @@ ghost use Rattle.std.specs.Prelude.{◌≡◌, ℕ, ◌+◌, ◌-◌, ◌^◌, �
 ghost use Rattle.flash_record.specs.Record.{Parts, record_bytes, record_length};
 ghost use Rattle.flash_buffers.specs.Block.{Slot, block_bytes, block_place, fits_in, place_in, appended_in};
 ghost use Rattle.flash_buffers.specs.BufferTable.{without};
-ghost use Rattle.flash_buffers.specs.Covering.{same_label, has_label, covers, bytes_in};
+ghost use Rattle.flash_buffers.specs.Covering.{has_label, covers, bytes_in};
 
 use flash_names::{Key, Label, Place};
 use flash_record::write_record;
@@ -60,7 +60,7 @@ impl Buffer {
     {
         match self.label {
             None => false,
-            Some(own) => is_same(own, label),
+            Some(own) => own.is_same(label),
         }
     }
 
@@ -75,14 +75,14 @@ impl Buffer {
         self.used = 0;
     }
 
-    /// It is free from now on.
+    /// Frees it.
     pub fn clear(&mut self)
         ensures { self.new ≡ record self.old { block = None } }
     {
         self.label = None;
     }
 
-    /// It is free from now on, if it is taken by a block of this label.
+    /// Frees it, if it is taken by a block of this label.
     pub fn drop_label(&mut self, label: Label)
         ensures { self.new ≡ without label self.old }
     {
@@ -186,10 +186,4 @@ fn write_behind(
     ensures refused { IfNone result (bytes.new ≡ bytes.old) }
 {
     write_record(&mut bytes[used..], key, flags, cas, version, value)
-}
-
-fn is_same(one: Label, other: Label) -> bool
-    ensures { result ≡ same_label one other }
-{
-    one.page == other.page && one.version == other.version
 }

@@ -11,7 +11,8 @@ use flash_names::{Blob, Key, Label, Place};
 use std::alloc::{AllocError, Global};
 use std::marker::Model;
 
-/// The number of a write buffer.
+/// A write buffer that was taken, by its number. Once its block was written or dropped, the number may be that
+/// of another block.
 #[derive(Clone, Copy, Debug, PartialEq, Eq)]
 pub struct BufferId {
     /// Its number, counted from 0.
@@ -53,7 +54,7 @@ impl Model for Buffers {
 impl Buffers {
     ghost use Rattle.flash_buffers.specs.Calls.{after, takes, appends, seals, begins, writes, unwrites, drops, next_job, is_idle, IsOut, IsNotOut, CanTake};
 
-    /// So many free buffers of so many bytes, and one spare, or want of memory. No later call takes memory.
+    /// So many free buffers of so many bytes, and one spare, or want of memory. No later call answers that.
     pub fn open(alloc: Global, buffers: u32, size: u32) -> Result<Buffers, AllocError>
         ensures { IfOk result (λ all. all ≡ first_table buffers size) }
     {
@@ -77,7 +78,8 @@ impl Buffers {
     }
 
     /// Takes the free buffer of lowest number, zeroed, for the block of this label from this offset of its
-    /// page on; `None` where no buffer is free.
+    /// page on; `None` where no buffer is free. The range has to end below 2^32 bytes of the page, and no
+    /// buffer of the label may have a byte of it.
     pub fn take(&mut self, label: Label, offset: u32) -> Option<BufferId>
         requires { CanTake self.old label offset }
         ensures exact { result ≡ option_map (λ number. record { number = number }) (first_free self.old) }
@@ -89,7 +91,7 @@ impl Buffers {
         Some(BufferId { number })
     }
 
-    /// Whether a record of so many bytes fits in the rest of the buffer.
+    /// Whether a record of so many bytes fits in the rest of the buffer, which has to be taken and not sealed.
     pub fn fits(&self, id: BufferId, length: usize) -> bool
         requires { IsOpen self.now id.number }
         ensures { option_map (λ block. fits_in self.now.size length block) (block_of self.now id.number) ≡ Some result }
@@ -99,7 +101,8 @@ impl Buffers {
     }
 
     /// Writes the record of these parts, with the version of the buffer's label, behind those that are there,
-    /// and answers its place; `None`, and nothing has changed, where it doesn't fit in the rest.
+    /// and answers its place; `None`, and nothing has changed, where it doesn't fit in the rest. The buffer has
+    /// to be taken and not sealed.
     pub fn append(
         &mut self,
         id: BufferId,
@@ -116,7 +119,8 @@ impl Buffers {
         row.append(key, flags, cas, value)
     }
 
-    /// Puts the buffer at the end of the line of those that are to be written.
+    /// Puts the buffer at the end of the line of those that are to be written. It has to be taken and not
+    /// sealed.
     pub fn seal(&mut self, id: BufferId)
         requires { IsOpen self.old id.number }
         ensures { self.new ≡ after (seals id.number) self.old }
@@ -142,7 +146,7 @@ impl Buffers {
         })
     }
 
-    /// The block was written: its buffer is free.
+    /// Takes back the job of a block that was written: its buffer is free. It has to be the job that is out.
     pub fn written(&mut self, job: WriteJob)
         requires { IsOut self.old job }
         ensures { self.new ≡ after (writes job) self.old }
@@ -153,7 +157,8 @@ impl Buffers {
         row.clear();
     }
 
-    /// The block wasn't written: its buffer is still the first of the line.
+    /// Takes back the job of a block that wasn't written: its buffer is still the first of the line. It has to
+    /// be the job that is out.
     pub fn unwritten(&mut self, job: WriteJob)
         requires { IsOut self.old job }
         ensures { self.new ≡ after (unwrites job) self.old }
@@ -161,7 +166,7 @@ impl Buffers {
         self.take_back(job);
     }
 
-    /// Frees the buffers of the label.
+    /// Frees the buffers of the label. No job of the label may be out.
     pub fn drop_of(&mut self, label: Label)
         requires { IsNotOut self.old label }
         ensures { self.new ≡ after (drops label) self.old }
@@ -185,6 +190,7 @@ impl Buffers {
         requires { IsOut self.old job }
         ensures { self.new ≡ after (unwrites job) self.old }
     {
+        // Read for the proof: the first buffer's size is the spare's.
         let row = &self.rows[self.line[0] as usize];
         let _size = row.bytes().len();
         self.spare = Some(job.bytes);

@@ -1,15 +1,18 @@
-ghost use Rattle.std.specs.Prelude.{◌≡◌, ℕ, ◌++◌, ◌∷◌, List, Some};
+ghost use Rattle.std.specs.Prelude.{◌≡◌, ℕ, ◌^◌, ◌<◌, ◌++◌, ◌∷◌, List, Some};
+ghost use Rattle.std.specs.Option.{ForSome};
 ghost use Rattle.flash_names.specs.declared.place.Place.{Place};
 ghost use Rattle.flash_buffers.specs.declared.buffers.WriteJob.{WriteJob};
 ghost use Rattle.flash_record.specs.Record.{Parts, record_bytes};
 ghost use Rattle.flash_buffers.specs.Block.{place_in};
 ghost use Rattle.flash_buffers.specs.BufferTable.{BufferTable, first_table, block_of, read_of};
 ghost use Rattle.flash_buffers.specs.Calls.{Call, appends, after, IsOut};
-ghost use Rattle.flash_buffers.specs.Law.{AllAllowed, after_all, AllLeave, NoneGivesBack, AllDropNone, all_sealed, all_written};
+ghost use Rattle.flash_buffers.specs.Law.{AllAllowed, after_all, AllLeave, NoneGivesBack, AllDropNone, all_sealed, all_written, IsPartOf, AllHaveWidths};
+ghost use Rattle.flash_buffers.specs.Records.{AreRecords};
 
 /// What holds over any list of calls that each may be made: a record that was appended is read until its
 /// block was written or its page dropped, a job that is out stays that of its buffer until it is given
-/// back, and sealed buffers are written first in, first out. It does nothing.
+/// back, sealed buffers are written in their order, those that are dropped left out, and a block's bytes are
+/// whole records. It does nothing.
 pub fn keeps_the_law()
     ensures kept { (buffers size : ℕ) (first second : List Call) (number : ℕ) (key : List ℕ) (flags cas : ℕ) (value : List ℕ) (place : Place) →
         let call : Call = appends number key flags cas value in
@@ -27,4 +30,12 @@ pub fn keeps_the_law()
     // Where no label is dropped, the buffers in the line and those that are sealed are written in their order.
     ensures in_order { (t : BufferTable) (calls : List Call) →
         AllDropNone calls → t.line ++ all_sealed calls ≡ all_written t calls ++ (after_all calls t).line }
+
+    // Where labels are dropped, some of these are left out, and the others are written in their order.
+    ensures part { (t : BufferTable) (calls : List Call) →
+        IsPartOf (all_written t calls ++ (after_all calls t).line) (t.line ++ all_sealed calls) }
+
+    // The bytes of a block are whole records of its version, one behind the other.
+    ensures records { (buffers size : ℕ) (calls : List Call) (number : ℕ) →
+        size < 2 ^ 32 → AllHaveWidths calls → ForSome (block_of (after_all calls (first_table buffers size)) number) AreRecords }
 {}

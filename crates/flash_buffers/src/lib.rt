@@ -1,5 +1,5 @@
 //! The write buffers: blocks of pages that records are appended to until they are written, and read from
-//! until then.
+//! until then (after memcached's extstore).
 #![tactic(auto)]
 
 mod buffer;
