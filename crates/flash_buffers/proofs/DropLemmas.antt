@@ -52,30 +52,30 @@ left_taken label (Some block) some = is_left (has_label label (Some block)) bloc
 left_at : (label : Label) (slots : List Slot) (n : ℕ) → (get_or (map (without label) slots) n free_slot).block ≡ dropped label (get_or slots n free_slot).block
 left_at label slots n = ap (λ (s : Slot). s.block) (get_or-map (without label) slots n free_slot)
 
--- the line that is left
-pub dropped_line : (label : Label) (slots : List Slot) (line : List ℕ) → AllByRecursion (IsTaken slots) line → filter (λ n. is_some (get_or (map (without label) slots) n free_slot).block) line ≡ filter (λ n. not (has_label label (get_or (blocks_in slots) n None))) line
-dropped_line label slots [] taken = refl
-dropped_line label slots (n ∷ rest) taken =
+-- the queue that is left
+pub dropped_queue : (label : Label) (slots : List Slot) (queue : List ℕ) → AllByRecursion (IsTaken slots) queue → filter (λ n. is_some (get_or (map (without label) slots) n free_slot).block) queue ≡ filter (λ n. not (has_label label (get_or (blocks_in slots) n None))) queue
+dropped_queue label slots [] taken = refl
+dropped_queue label slots (n ∷ rest) taken =
     let test : is_some (get_or (map (without label) slots) n free_slot).block ≡ not (has_label label (get_or (blocks_in slots) n None)) =
     ap (λ (b : Option Block). is_some b) (left_at label slots n) ∙ left_taken label (get_or slots n free_slot).block taken.0.1 ∙ ap (λ (b : Option Block). not (has_label label b)) (sym (block_at slots n)) in
-    rw (test, dropped_line label slots rest taken.1) refl
+    rw (test, dropped_queue label slots rest taken.1) refl
 
--- what stays of the line is taken
-pub taken_left : (slots : List Slot) (line : List ℕ) → AllByRecursion (λ n. n < length slots) line → AllByRecursion (IsTaken slots) (filter (λ n. is_some (get_or slots n free_slot).block) line)
+-- what stays of the queue is taken
+pub taken_left : (slots : List Slot) (queue : List ℕ) → AllByRecursion (λ n. n < length slots) queue → AllByRecursion (IsTaken slots) (filter (λ n. is_some (get_or slots n free_slot).block) queue)
 taken_left slots [] below = tt
 taken_left slots (n ∷ rest) below = keep slots n rest (is_some (get_or slots n free_slot).block) refl below.0 (taken_left slots rest below.1) where
   keep : (slots : List Slot) (n : ℕ) (rest : List ℕ) (some : Bool) → is_some (get_or slots n free_slot).block ≡ some → n < length slots → AllByRecursion (IsTaken slots) (filter (λ n. is_some (get_or slots n free_slot).block) rest) → AllByRecursion (IsTaken slots) (cond some (n ∷ filter (λ n. is_some (get_or slots n free_slot).block) rest) (filter (λ n. is_some (get_or slots n free_slot).block) rest))
   keep slots n rest true is inside later = ((inside, is), later)
   keep slots n rest false is inside later = later
 
-apart_left : (p : ℕ → Bool) (n : ℕ) (line : List ℕ) → AllByRecursion (λ m. nat_eq n m ≡ false) line → AllByRecursion (λ m. nat_eq n m ≡ false) (filter p line)
+apart_left : (p : ℕ → Bool) (n : ℕ) (queue : List ℕ) → AllByRecursion (λ m. nat_eq n m ≡ false) queue → AllByRecursion (λ m. nat_eq n m ≡ false) (filter p queue)
 apart_left p n [] apart = tt
 apart_left p n (m ∷ rest) apart = keep p n m rest (p m) apart.0 (apart_left p n rest apart.1) where
   keep : (p : ℕ → Bool) (n m : ℕ) (rest : List ℕ) (stays : Bool) → nat_eq n m ≡ false → AllByRecursion (λ m. nat_eq n m ≡ false) (filter p rest) → AllByRecursion (λ m. nat_eq n m ≡ false) (cond stays (m ∷ filter p rest) (filter p rest))
   keep p n m rest true differ later = (differ, later)
   keep p n m rest false differ later = later
 
-pub distinct_left : (p : ℕ → Bool) (line : List ℕ) → IsDistinct nat_eq line → IsDistinct nat_eq (filter p line)
+pub distinct_left : (p : ℕ → Bool) (queue : List ℕ) → IsDistinct nat_eq queue → IsDistinct nat_eq (filter p queue)
 unfolding IsDistinct
 distinct_left p [] distinct = tt
 distinct_left p (n ∷ rest) distinct = keep p n rest (p n) distinct.0 (distinct_left p rest distinct.1) where
@@ -83,21 +83,21 @@ distinct_left p (n ∷ rest) distinct = keep p n rest (p n) distinct.0 (distinct
   keep p n rest true apart later = (apart_left p n rest apart, later)
   keep p n rest false apart later = later
 
-pub sound_dropped : (size : ℕ) (label : Label) (slots left : List Slot) (line kept : List ℕ) (room : ℕ) → IsSound size slots line room → left ≡ map (without label) slots → kept ≡ filter (λ n. is_some (get_or left n free_slot).block) line → IsSound size left kept room
-sound_dropped size label slots left line kept room sound left_is kept_is =
+pub sound_dropped : (size : ℕ) (label : Label) (slots left : List Slot) (queue kept : List ℕ) (room : ℕ) → IsSound size slots queue room → left ≡ map (without label) slots → kept ≡ filter (λ n. is_some (get_or left n free_slot).block) queue → IsSound size left kept room
+sound_dropped size label slots left queue kept room sound left_is kept_is =
     let long : length left ≡ length slots = ap (λ (l : List Slot). length l) left_is ∙ length-map slots (without label) in
-    let below : AllByRecursion (λ n. n < length left) line = subst (λ (n : ℕ). AllByRecursion (λ m. m < n) line) (sym long) (below_of slots line sound.taken) in
+    let below : AllByRecursion (λ n. n < length left) queue = subst (λ (n : ℕ). AllByRecursion (λ m. m < n) queue) (sym long) (below_of slots queue sound.taken) in
     record {
       sizes = subst (λ (l : List Slot). All (λ slot. slot.size ≡ size) l) (sym left_is) (dropped_sizes size label slots sound.sizes);
       few = omega (arith, sound.few, long);
       rooms = omega (arith, sound.rooms, long);
-      taken = subst (AllByRecursion (IsTaken left)) (sym kept_is) (taken_left left line below);
-      distinct = subst (IsDistinct nat_eq) (sym kept_is) (distinct_left (λ n. is_some (get_or left n free_slot).block) line sound.distinct);
+      taken = subst (AllByRecursion (IsTaken left)) (sym kept_is) (taken_left left queue below);
+      distinct = subst (IsDistinct nat_eq) (sym kept_is) (distinct_left (λ n. is_some (get_or left n free_slot).block) queue sound.distinct);
     }
 
 -- the table that is left
-pub dropped_table : (size : ℕ) (label : Label) (slots left : List Slot) (line kept : List ℕ) (room : ℕ) (out : Bool) → IsSound size slots line room → left ≡ map (without label) slots → kept ≡ filter (λ n. is_some (get_or left n free_slot).block) line → record { size = size; blocks = blocks_in left; line = kept; out = out } ≡ after (drops label) (record { size = size; blocks = blocks_in slots; line = line; out = out })
-dropped_table size label slots left line kept room out sound left_is kept_is =
+pub dropped_table : (size : ℕ) (label : Label) (slots left : List Slot) (queue kept : List ℕ) (room : ℕ) (out : Bool) → IsSound size slots queue room → left ≡ map (without label) slots → kept ≡ filter (λ n. is_some (get_or left n free_slot).block) queue → record { size = size; blocks = blocks_in left; queue = kept; out = out } ≡ after (drops label) (record { size = size; blocks = blocks_in slots; queue = queue; out = out })
+dropped_table size label slots left queue kept room out sound left_is kept_is =
     let blocks : blocks_in left ≡ map (dropped label) (blocks_in slots) = ap (λ (l : List Slot). blocks_in l) left_is ∙ dropped_blocks label slots in
-    let kept_line : kept ≡ filter (λ n. not (has_label label (get_or (blocks_in slots) n None))) line = kept_is ∙ ap (λ (l : List Slot). filter (λ n. is_some (get_or l n free_slot).block) line) left_is ∙ dropped_line label slots line sound.taken in
-    rw (blocks, kept_line) refl
+    let kept_queue : kept ≡ filter (λ n. not (has_label label (get_or (blocks_in slots) n None))) queue = kept_is ∙ ap (λ (l : List Slot). filter (λ n. is_some (get_or l n free_slot).block) queue) left_is ∙ dropped_queue label slots queue sound.taken in
+    rw (blocks, kept_queue) refl

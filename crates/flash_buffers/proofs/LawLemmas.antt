@@ -128,8 +128,8 @@ step_apart t (appends number key flags cas value) may apart =
     fewer_apart t.size t.blocks _ (set_fewer t.size t.blocks number _ (λ label at has. sym (appended_covers t.size (byte_at label at) key flags cas value (get_or t.blocks number None)) ∙ has)) apart
 step_apart t (seals number) may apart = apart
 step_apart t begins may apart = apart
-step_apart t (writes job) may apart = written t.line where
-  written : (line : List ℕ) → Apart (with_written t line).size (with_written t line).blocks
+step_apart t (writes job) may apart = written t.queue where
+  written : (queue : List ℕ) → Apart (with_written t queue).size (with_written t queue).blocks
   written [] = apart
   written (number ∷ rest) = fewer_apart t.size t.blocks _ (set_fewer t.size t.blocks number None (λ label at has. absurd (cc has))) apart
 step_apart t (unwrites job) may apart = apart
@@ -190,8 +190,8 @@ step_holds t place bytes n (appends number key flags cas value) may leaves holds
     ]
 step_holds t place bytes n (seals number) may leaves holds = holds
 step_holds t place bytes n begins may leaves holds = holds
-step_holds t place bytes n (writes job) may leaves holds = written t.line leaves where
-  written : (line : List ℕ) → covers t.size place (first_block t.blocks line) ≡ false → Holds (with_written t line).size place bytes n (with_written t line).blocks
+step_holds t place bytes n (writes job) may leaves holds = written t.queue leaves where
+  written : (queue : List ℕ) → covers t.size place (first_block t.blocks queue) ≡ false → Holds (with_written t queue).size place bytes n (with_written t queue).blocks
   written [] apart = holds
   written (number ∷ rest) apart = other_holds t.size place bytes n number None t.blocks
       (λ same. (let at : get_or t.blocks number None ≡ Some holds.0 = subst (λ (k : ℕ). get_or t.blocks k None ≡ Some holds.0) same holds.1 in
@@ -230,8 +230,8 @@ step_size t (takes label offset) = taken (first_free t) where
 step_size t (appends number key flags cas value) = refl
 step_size t (seals number) = refl
 step_size t begins = refl
-step_size t (writes job) = written t.line where
-  written : (line : List ℕ) → (with_written t line).size ≡ t.size
+step_size t (writes job) = written t.queue where
+  written : (queue : List ℕ) → (with_written t queue).size ≡ t.size
   written [] = refl
   written (number ∷ rest) = refl
 step_size t (unwrites job) = refl

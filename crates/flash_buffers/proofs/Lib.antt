@@ -1,9 +1,9 @@
 pub mod BufferLemmas
 pub mod DropLemmas
 pub mod LawLemmas
-pub mod LineLemmas
 pub mod OrderLemmas
 pub mod Pigeonhole
+pub mod QueueLemmas
 pub mod ReadLemmas
 pub mod RecordsLemmas
 pub mod SoundLemmas

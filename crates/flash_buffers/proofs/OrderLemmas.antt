@@ -1,10 +1,10 @@
--- The line keeps its order, also where a label is dropped.
+-- The queue keeps its order, also where a label is dropped.
 use Rattle.std.proofs.Common.{◌≡◌, ℕ, Bool, true, false, not, cond, List, [], ◌∷◌, ◌++◌, filter, inl, inr, refl, sym, ◌∙◌, subst, append_assoc, append-nil}
 use Rattle.flash_buffers.specs.Covering.{has_label}
 use Rattle.flash_buffers.specs.BufferTable.{BufferTable, block_of}
 use Rattle.flash_buffers.specs.Calls.{Call, takes, appends, seals, begins, writes, unwrites, drops, after}
 use Rattle.flash_buffers.specs.Law.{after_all, sealed_by, written_by, all_sealed, all_written, IsPartOf}
-use Rattle.flash_buffers.proofs.LineLemmas.{step_order}
+use Rattle.flash_buffers.proofs.QueueLemmas.{step_order}
 
 part_same : (xs : List ℕ) → IsPartOf xs xs
 part_same [] = tt
@@ -44,7 +44,7 @@ part_filter p (x ∷ xs) = left (p x) x (filter p xs) xs (part_filter p xs) wher
   left false x some all part = part_later some all x part
 
 -- one call keeps the order of what it leaves
-step_part : (t : BufferTable) (call : Call) → IsPartOf (written_by t call ++ (after call t).line) (t.line ++ sealed_by call)
+step_part : (t : BufferTable) (call : Call) → IsPartOf (written_by t call ++ (after call t).queue) (t.queue ++ sealed_by call)
 step_part t (takes label offset) = part_of_same _ _ (step_order t (takes label offset) tt)
 step_part t (appends number key flags cas value) = part_of_same _ _ (step_order t (appends number key flags cas value) tt)
 step_part t (seals number) = part_of_same _ _ (step_order t (seals number) tt)
@@ -52,17 +52,17 @@ step_part t begins = part_of_same _ _ (step_order t begins tt)
 step_part t (writes job) = part_of_same _ _ (step_order t (writes job) tt)
 step_part t (unwrites job) = part_of_same _ _ (step_order t (unwrites job) tt)
 step_part t (drops label) =
-    let left : List ℕ = filter (λ n. not (has_label label (block_of t n))) t.line in
-    subst (λ (l : List ℕ). IsPartOf left l) (sym (append-nil t.line)) (part_filter (λ n. not (has_label label (block_of t n))) t.line)
+    let left : List ℕ = filter (λ n. not (has_label label (block_of t n))) t.queue in
+    subst (λ (l : List ℕ). IsPartOf left l) (sym (append-nil t.queue)) (part_filter (λ n. not (has_label label (block_of t n))) t.queue)
 
-pub all_part : (t : BufferTable) (calls : List Call) → IsPartOf (all_written t calls ++ (after_all calls t).line) (t.line ++ all_sealed calls)
-all_part t [] = part_of_same t.line (t.line ++ []) (append-nil t.line)
+pub all_part : (t : BufferTable) (calls : List Call) → IsPartOf (all_written t calls ++ (after_all calls t).queue) (t.queue ++ all_sealed calls)
+all_part t [] = part_of_same t.queue (t.queue ++ []) (append-nil t.queue)
 all_part t (call ∷ rest) =
     let one : List ℕ = written_by t call in
     let now : BufferTable = after call t in
-    let end : List ℕ = (after_all rest now).line in
-    let later : IsPartOf (one ++ (all_written now rest ++ end)) (one ++ (now.line ++ all_sealed rest)) = part_front one _ _ (all_part now rest) in
-    let here : IsPartOf ((one ++ now.line) ++ all_sealed rest) ((t.line ++ sealed_by call) ++ all_sealed rest) = part_back (one ++ now.line) (t.line ++ sealed_by call) (all_sealed rest) (step_part t call) in
-    let from : IsPartOf (one ++ (now.line ++ all_sealed rest)) (t.line ++ (sealed_by call ++ all_sealed rest)) =
-    subst (λ (l : List ℕ). IsPartOf l (t.line ++ (sealed_by call ++ all_sealed rest))) (append_assoc one now.line (all_sealed rest)) (subst (λ (l : List ℕ). IsPartOf ((one ++ now.line) ++ all_sealed rest) l) (append_assoc t.line (sealed_by call) (all_sealed rest)) here) in
-    subst (λ (l : List ℕ). IsPartOf l (t.line ++ (sealed_by call ++ all_sealed rest))) (sym (append_assoc one (all_written now rest) end)) (part_in_turn (one ++ (all_written now rest ++ end)) (one ++ (now.line ++ all_sealed rest)) (t.line ++ (sealed_by call ++ all_sealed rest)) later from)
+    let end : List ℕ = (after_all rest now).queue in
+    let later : IsPartOf (one ++ (all_written now rest ++ end)) (one ++ (now.queue ++ all_sealed rest)) = part_front one _ _ (all_part now rest) in
+    let here : IsPartOf ((one ++ now.queue) ++ all_sealed rest) ((t.queue ++ sealed_by call) ++ all_sealed rest) = part_back (one ++ now.queue) (t.queue ++ sealed_by call) (all_sealed rest) (step_part t call) in
+    let from : IsPartOf (one ++ (now.queue ++ all_sealed rest)) (t.queue ++ (sealed_by call ++ all_sealed rest)) =
+    subst (λ (l : List ℕ). IsPartOf l (t.queue ++ (sealed_by call ++ all_sealed rest))) (append_assoc one now.queue (all_sealed rest)) (subst (λ (l : List ℕ). IsPartOf ((one ++ now.queue) ++ all_sealed rest) l) (append_assoc t.queue (sealed_by call) (all_sealed rest)) here) in
+    subst (λ (l : List ℕ). IsPartOf l (t.queue ++ (sealed_by call ++ all_sealed rest))) (sym (append_assoc one (all_written now rest) end)) (part_in_turn (one ++ (all_written now rest ++ end)) (one ++ (now.queue ++ all_sealed rest)) (t.queue ++ (sealed_by call ++ all_sealed rest)) later from)

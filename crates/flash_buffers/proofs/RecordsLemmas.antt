@@ -100,8 +100,8 @@ step_good t (appends number key flags cas value) small widths all =
     set_good t.blocks number (appended_in t.size key flags cas value (block_of t number)) (appended_at t.size number key flags cas value (block_of t number) small widths (all number)) all
 step_good t (seals number) small widths all = all
 step_good t begins small widths all = all
-step_good t (writes job) small widths all = written t.line where
-  written : (line : List ℕ) → AllGood (with_written t line).blocks
+step_good t (writes job) small widths all = written t.queue where
+  written : (queue : List ℕ) → AllGood (with_written t queue).blocks
   written [] = all
   written (number ∷ rest) = set_good t.blocks number None (none_good None refl) all
 step_good t (unwrites job) small widths all = all

@@ -1,4 +1,4 @@
--- What each call keeps of the buffers, over their slots and their line.
+-- What each call keeps of the buffers, over their slots and their queue.
 use Rattle.std.proofs.Common.{◌≡◌, ℕ, zero, suc, ◌^◌, ◌<◌, ◌≤◌, Bool, false, nat_eq, IsSome, List, [], ◌∷◌, ◌++◌, length, get_or, set, take, drop, replicate, All, Option, None, Some, refl, sym, ap, ◌∙◌, subst, arith, length-append, inl, inr}
 use Rattle.std.proofs.Math.ListN.{get_or-map}
 use Rattle.std.proofs.lemmas.Bool.{or_parts}
@@ -44,7 +44,7 @@ stays_taken slots n m slot here taken =
       | inr is ↦ (inside, subst (λ (s : Slot). IsSome s.block) (sym (get_or-set_other slots n m slot free_slot (λ same. is.1 (sym same)))) taken.1)
     ]
 
-pub all_stay : (slots : List Slot) (n : ℕ) (slot : Slot) (line : List ℕ) → IsSome slot.block → AllByRecursion (IsTaken slots) line → AllByRecursion (IsTaken (set slots n slot)) line
+pub all_stay : (slots : List Slot) (n : ℕ) (slot : Slot) (queue : List ℕ) → IsSome slot.block → AllByRecursion (IsTaken slots) queue → AllByRecursion (IsTaken (set slots n slot)) queue
 all_stay slots n slot [] some taken = tt
 all_stay slots n slot (m ∷ rest) some taken = (stays_taken slots n m slot (λ _. some) taken.0, all_stay slots n slot rest some taken.1)
 
@@ -54,8 +54,8 @@ others_stay slots n slot [] apart taken = tt
 others_stay slots n slot (m ∷ rest) apart taken =
     (stays_taken slots n m slot (λ same. absurd (grind (arith, nat_tests, apart.0, same))) taken.0, others_stay slots n slot rest apart.1 taken.1)
 
--- one more at the line's end
-taken_push : (slots : List Slot) (line : List ℕ) (n : ℕ) → IsTaken slots n → AllByRecursion (IsTaken slots) line → AllByRecursion (IsTaken slots) (line ++ n ∷ [])
+-- one more at the queue's end
+taken_push : (slots : List Slot) (queue : List ℕ) (n : ℕ) → IsTaken slots n → AllByRecursion (IsTaken slots) queue → AllByRecursion (IsTaken slots) (queue ++ n ∷ [])
 taken_push slots [] n is taken = (is, tt)
 taken_push slots (m ∷ rest) n is taken = (taken.0, taken_push slots rest n is taken.1)
 
@@ -63,44 +63,44 @@ apart_push : (m n : ℕ) (rest : List ℕ) → nat_eq m n ≡ false → AllByRec
 apart_push m n [] differ apart = (differ, tt)
 apart_push m n (y ∷ rest) differ apart = (apart.0, apart_push m n rest differ apart.1)
 
-distinct_push : (line : List ℕ) (n : ℕ) → list_any (λ m. nat_eq m n) line ≡ false → IsDistinct nat_eq line → IsDistinct nat_eq (line ++ n ∷ [])
+distinct_push : (queue : List ℕ) (n : ℕ) → list_any (λ m. nat_eq m n) queue ≡ false → IsDistinct nat_eq queue → IsDistinct nat_eq (queue ++ n ∷ [])
 unfolding IsDistinct
 distinct_push [] n none distinct = (tt, tt)
 distinct_push (m ∷ rest) n none distinct =
     let parts = or_parts (nat_eq m n) (list_any (λ y. nat_eq y n) rest) none in
     (apart_push m n rest parts.0 distinct.0, distinct_push rest n parts.1 distinct.1)
 
-pub below_of : (slots : List Slot) (line : List ℕ) → AllByRecursion (IsTaken slots) line → AllByRecursion (λ n. n < length slots) line
+pub below_of : (slots : List Slot) (queue : List ℕ) → AllByRecursion (IsTaken slots) queue → AllByRecursion (λ n. n < length slots) queue
 below_of slots [] taken = tt
 below_of slots (n ∷ rest) taken = (taken.0.0, below_of slots rest taken.1)
 
--- the line has room for one more
-pub shorter : (size : ℕ) (slots : List Slot) (line : List ℕ) (room n : ℕ) → IsSound size slots line room → IsTaken slots n → list_any (λ m. nat_eq m n) line ≡ false → length line < room
-shorter size slots line room n sound is none =
-    let all : length (line ++ n ∷ []) ≤ length slots = distinct_few (length slots) (line ++ n ∷ []) (below_of slots (line ++ n ∷ []) (taken_push slots line n is sound.taken)) (distinct_push line n none sound.distinct) in
-    omega (arith, all, sound.rooms, length-append line (n ∷ []))
+-- the queue has room for one more
+pub shorter : (size : ℕ) (slots : List Slot) (queue : List ℕ) (room n : ℕ) → IsSound size slots queue room → IsTaken slots n → list_any (λ m. nat_eq m n) queue ≡ false → length queue < room
+shorter size slots queue room n sound is none =
+    let all : length (queue ++ n ∷ []) ≤ length slots = distinct_few (length slots) (queue ++ n ∷ []) (below_of slots (queue ++ n ∷ []) (taken_push slots queue n is sound.taken)) (distinct_push queue n none sound.distinct) in
+    omega (arith, all, sound.rooms, length-append queue (n ∷ []))
 
-pub sound_push : (size : ℕ) (slots : List Slot) (line : List ℕ) (room more n : ℕ) → IsSound size slots line room → IsTaken slots n → list_any (λ m. nat_eq m n) line ≡ false → room ≤ more → IsSound size slots (line ++ n ∷ []) more
-sound_push size slots line room more n sound is none wider = record {
+pub sound_push : (size : ℕ) (slots : List Slot) (queue : List ℕ) (room more n : ℕ) → IsSound size slots queue room → IsTaken slots n → list_any (λ m. nat_eq m n) queue ≡ false → room ≤ more → IsSound size slots (queue ++ n ∷ []) more
+sound_push size slots queue room more n sound is none wider = record {
   sizes = sound.sizes;
   few = sound.few;
   rooms = omega (arith, sound.rooms, wider);
-  taken = taken_push slots line n is sound.taken;
-  distinct = distinct_push line n none sound.distinct;
+  taken = taken_push slots queue n is sound.taken;
+  distinct = distinct_push queue n none sound.distinct;
 }
 
 -- a buffer is taken, or keeps being so
-pub sound_set : (size : ℕ) (slots : List Slot) (line : List ℕ) (room n : ℕ) (slot : Slot) → IsSound size slots line room → slot.size ≡ size → IsSome slot.block → IsSound size (set slots n slot) line room
-sound_set size slots line room n slot sound long some = record {
+pub sound_set : (size : ℕ) (slots : List Slot) (queue : List ℕ) (room n : ℕ) (slot : Slot) → IsSound size slots queue room → slot.size ≡ size → IsSome slot.block → IsSound size (set slots n slot) queue room
+sound_set size slots queue room n slot sound long some = record {
   sizes = All-set (λ (s : Slot). s.size ≡ size) slots n slot long sound.sizes;
   few = omega (arith, sound.few, length-set slots n slot);
   rooms = omega (arith, sound.rooms, length-set slots n slot);
-  taken = all_stay slots n slot line some sound.taken;
+  taken = all_stay slots n slot queue some sound.taken;
   distinct = sound.distinct;
 }
 
--- the first of the line is free
-pub sound_written : (size : ℕ) (slots : List Slot) (line : List ℕ) (room n : ℕ) (slot : Slot) → IsSound size slots line room → 0 < length line → n ≡ get_or line 0 n → slot.size ≡ size → IsSound size (set slots n slot) (drop 1 line) room
+-- the first of the queue is free
+pub sound_written : (size : ℕ) (slots : List Slot) (queue : List ℕ) (room n : ℕ) (slot : Slot) → IsSound size slots queue room → 0 < length queue → n ≡ get_or queue 0 n → slot.size ≡ size → IsSound size (set slots n slot) (drop 1 queue) room
 unfolding IsDistinct
 sound_written size slots [] room n slot sound some first long = absurd (omega (arith, some))
 sound_written size slots (m ∷ rest) room n slot sound some first long =
@@ -112,10 +112,10 @@ sound_written size slots (m ∷ rest) room n slot sound some first long =
       distinct = sound.distinct.1;
     })
 
-pub written_table : (size : ℕ) (slots : List Slot) (line : List ℕ) (out : Bool) (n : ℕ) (slot : Slot) → 0 < length line → n ≡ get_or line 0 n → slot.block ≡ None → record { size = size; blocks = blocks_in (set slots n slot); line = drop 1 line; out = false } ≡ with_written (record { size = size; blocks = blocks_in slots; line = line; out = out }) line
+pub written_table : (size : ℕ) (slots : List Slot) (queue : List ℕ) (out : Bool) (n : ℕ) (slot : Slot) → 0 < length queue → n ≡ get_or queue 0 n → slot.block ≡ None → record { size = size; blocks = blocks_in (set slots n slot); queue = drop 1 queue; out = false } ≡ with_written (record { size = size; blocks = blocks_in slots; queue = queue; out = out }) queue
 written_table size slots [] out n slot some first free = absurd (omega (arith, some))
 written_table size slots (m ∷ rest) out n slot some first free =
-    ap (λ (blocks : List (Option Block)). record { size = size; blocks = blocks; line = rest; out = false }) (map-set (λ s. s.block) slots n slot ∙ rw (first, free) refl)
+    ap (λ (blocks : List (Option Block)). record { size = size; blocks = blocks; queue = rest; out = false }) (map-set (λ s. s.block) slots n slot ∙ rw (first, free) refl)
 
 -- a taken buffer by its number
 pub number_taken : (t : BufferTable) (slots : List Slot) (n : ℕ) → blocks_in slots ≡ t.blocks → n < length t.blocks → IsSome (block_of t n) → IsTaken slots n
@@ -130,26 +130,26 @@ taken_table t slots n label offset new same first block =
     ap (λ (l : List (Option Block)). record t { blocks = l }) blocks ∙ ap (with_taken t label offset) (sym first)
 
 -- the first buffers
-pub sound_first : (size n : ℕ) (slots : List Slot) (line : List ℕ) (room : ℕ) → slots ≡ replicate n (record { size = size; block = None }) → line ≡ [] → n < 2 ^ 32 → n ≤ room → IsSound size slots line room
+pub sound_first : (size n : ℕ) (slots : List Slot) (queue : List ℕ) (room : ℕ) → slots ≡ replicate n (record { size = size; block = None }) → queue ≡ [] → n < 2 ^ 32 → n ≤ room → IsSound size slots queue room
 unfolding IsDistinct
-sound_first size n slots line room slots_are line_is few rooms =
+sound_first size n slots queue room slots_are queue_is few rooms =
     let long : length slots ≡ n = ap (λ (l : List Slot). length l) slots_are ∙ length-replicate n _ in
     record {
       sizes = λ k d inside. (let at : get_or slots k d ≡ record { size = size; block = None } = ap (λ (l : List Slot). get_or l k d) slots_are ∙ get_or-replicate n k _ d (omega (arith, inside, long)) in ap (λ (s : Slot). s.size) at);
       few = omega (arith, few, long);
       rooms = omega (arith, rooms, long);
-      taken = subst (AllByRecursion (IsTaken slots)) (sym line_is) tt;
-      distinct = subst (IsDistinct nat_eq) (sym line_is) tt;
+      taken = subst (AllByRecursion (IsTaken slots)) (sym queue_is) tt;
+      distinct = subst (IsDistinct nat_eq) (sym queue_is) tt;
     }
 
 pub first_blocks : (size n : ℕ) → blocks_in (replicate n (record { size = size; block = None })) ≡ replicate n None
 first_blocks size zero = refl
 first_blocks size (suc n) = ap (λ (l : List (Option Block)). None ∷ l) (first_blocks size n)
 
-pub without_first : (line : List ℕ) → take 0 line ++ drop 1 line ≡ drop 1 line
+pub without_first : (queue : List ℕ) → take 0 queue ++ drop 1 queue ≡ drop 1 queue
 without_first [] = refl
 without_first (n ∷ rest) = refl
 
-pub first_inside : (slots : List Slot) (line : List ℕ) (n : ℕ) → AllByRecursion (IsTaken slots) line → 0 < length line → n ≡ get_or line 0 n → n < length slots
+pub first_inside : (slots : List Slot) (queue : List ℕ) (n : ℕ) → AllByRecursion (IsTaken slots) queue → 0 < length queue → n ≡ get_or queue 0 n → n < length slots
 first_inside slots [] n taken some first = absurd (omega (arith, some))
 first_inside slots (m ∷ rest) n taken some first = omega (arith, first, taken.0.0)

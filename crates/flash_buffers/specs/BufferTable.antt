@@ -11,12 +11,12 @@ use Rattle.flash_buffers.specs.Covering.{has_label, covers, read_in}
 pub record BufferTable : Type 0 where
   pub size : ℕ
   pub blocks : List (Option Block)
-  pub line : List ℕ
+  pub queue : List ℕ
   pub out : Bool
 
 -- all buffers are free, and the spare is there
 abbrev pub first_table : ℕ → ℕ → BufferTable
-first_table buffers size = record { size = size; blocks = replicate buffers None; line = []; out = false }
+first_table buffers size = record { size = size; blocks = replicate buffers None; queue = []; out = false }
 
 -- the block of a buffer
 abbrev pub block_of : BufferTable → ℕ → Option Block
@@ -26,9 +26,9 @@ block_of t number = slice_index_or t.blocks number None
 abbrev pub first_free : BufferTable → Option ℕ
 first_free t = position_from (λ block. is_none block) 0 t.blocks
 
--- whether the buffer stands in the line
+-- whether the buffer stands in the queue
 abbrev pub is_sealed : BufferTable → ℕ → Bool
-is_sealed t number = list_any (λ n. nat_eq n number) t.line
+is_sealed t number = list_any (λ n. nat_eq n number) t.queue
 
 -- the buffer is taken and not sealed
 pub record IsOpen (t : BufferTable) (number : ℕ) : Type 0 where
@@ -44,14 +44,14 @@ IsClear t label offset = (number at : ℕ) → offset ≤ at → at < offset + t
 abbrev pub read_of : BufferTable → Place → Option (List ℕ)
 read_of t place = read_in t.size place t.blocks
 
--- the block of the first in a line
+-- the block of the first in a queue
 abbrev pub first_block : List (Option Block) → List ℕ → Option Block
 first_block blocks [] = None
 first_block blocks (number ∷ rest) = slice_index_or blocks number None
 
 -- the block that is written next, or that is out
 abbrev pub oldest : BufferTable → Option Block
-oldest t = first_block t.blocks t.line
+oldest t = first_block t.blocks t.queue
 
 -- free where it is a block of this label
 abbrev pub dropped : Label → Option Block → Option Block

@@ -26,7 +26,7 @@ next_job t = if t.out then None else option_map (λ b. job_of t.size b) (oldest 
 
 -- there is none: none is sealed, or the spare is out
 abbrev pub is_idle : BufferTable → Bool
-is_idle t = t.out || nat_eq (length t.line) 0
+is_idle t = t.out || nat_eq (length t.queue) 0
 
 -- the job is that of the buffer that is out
 pub record IsOut (t : BufferTable) (job : WriteJob) : Type 0 where
@@ -58,17 +58,17 @@ with_taken t label offset None = t
 with_taken t label offset (Some number) =
     record t { blocks = slice_set t.blocks number (Some (record { label = label; offset = offset; records = [] })) }
 
--- the first of the line is free
+-- the first of the queue is free
 abbrev pub with_written : BufferTable → List ℕ → BufferTable
 with_written t [] = record t { out = false }
-with_written t (number ∷ rest) = record t { blocks = slice_set t.blocks number None; line = rest; out = false }
+with_written t (number ∷ rest) = record t { blocks = slice_set t.blocks number None; queue = rest; out = false }
 
 -- the buffers after the call
 abbrev pub after : Call → BufferTable → BufferTable
 after (takes label offset) t = with_taken t label offset (first_free t)
 after (appends number key flags cas value) t = record t { blocks = slice_set t.blocks number (appended_in t.size key flags cas value (block_of t number)) }
-after (seals number) t = record t { line = t.line ++ number ∷ [] }
+after (seals number) t = record t { queue = t.queue ++ number ∷ [] }
 after begins t = record t { out = t.out || is_some (oldest t) }
-after (writes job) t = with_written t t.line
+after (writes job) t = with_written t t.queue
 after (unwrites job) t = record t { out = false }
-after (drops label) t = record t { blocks = map (dropped label) t.blocks; line = filter (λ n. not (has_label label (block_of t n))) t.line }
+after (drops label) t = record t { blocks = map (dropped label) t.blocks; queue = filter (λ n. not (has_label label (block_of t n))) t.queue }

@@ -1,4 +1,4 @@
--- What any list of calls keeps: the records that are read, the job that is out, and the order of the line.
+-- What any list of calls keeps: the records that are read, the job that is out, and the order of the queue.
 use Rattle.std.specs.Prelude.{◌≡◌, ℕ, ◌^◌, ◌<◌, ◌≤◌, ◌⊎◌, false, List, [], ◌∷◌, ◌++◌, length, take}
 use Rattle.flash_names.specs.declared.place.Place.{Place}
 use Rattle.flash_names.specs.Labels.{same_label}
@@ -77,7 +77,7 @@ written_by t (takes label offset) = []
 written_by t (appends number key flags cas value) = []
 written_by t (seals number) = []
 written_by t begins = []
-written_by t (writes job) = take 1 t.line
+written_by t (writes job) = take 1 t.queue
 written_by t (unwrites job) = []
 written_by t (drops label) = []
 

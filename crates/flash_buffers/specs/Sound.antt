@@ -19,11 +19,11 @@ pub record Covers (size : ℕ) (place : Place) (slots : List Slot) (number : ℕ
   pub covers : covers size place (slice_index_or slots number free_slot).block ≡ true
   pub read : read_in size place (blocks_in slots) ≡ Some (bytes_in size place (slice_index_or slots number free_slot).block)
 
--- the buffers and their line are as `Buffers` keeps them: one size, fewer than 2^32, room in the line for each,
+-- the buffers and their queue are as `Buffers` keeps them: one size, fewer than 2^32, room in the queue for each,
 -- and in it taken ones alone, each once
-pub record IsSound (size : ℕ) (slots : List Slot) (line : List ℕ) (room : ℕ) : Type 0 where
+pub record IsSound (size : ℕ) (slots : List Slot) (queue : List ℕ) (room : ℕ) : Type 0 where
   pub sizes : All (λ slot. slot.size ≡ size) slots
   pub few : length slots < 2 ^ 32
   pub rooms : length slots ≤ room
-  pub taken : AllByRecursion (IsTaken slots) line
-  pub distinct : IsDistinct nat_eq line
+  pub taken : AllByRecursion (IsTaken slots) queue
+  pub distinct : IsDistinct nat_eq queue

@@ -28,11 +28,11 @@ pub struct WriteJob {
     pub bytes: Blob,
 }
 
-/// The write buffers, the line of those that are sealed, and a spare whose bytes a job takes along.
+/// The write buffers, the queue of those that are sealed, and a spare whose bytes a job takes along.
 #[derive(Debug, Drop)]
 pub struct Buffers {
     rows: Vec<Buffer>,
-    line: Vec<u32>,
+    queue: Vec<u32>,
     spare: Option<Blob>,
     size: u32,
 }
@@ -46,9 +46,9 @@ impl Model for Buffers {
 
     ghost Value = { BufferTable };
 
-    ghost view = { λ b. record { size = b.size; blocks = blocks_in b.rows.items; line = b.line.items; out = is_none b.spare } };
+    ghost view = { λ b. record { size = b.size; blocks = blocks_in b.rows.items; queue = b.queue.items; out = is_none b.spare } };
 
-    ghost invariant = { λ b. IsSound b.size b.rows.items b.line.items (vec_capacity b.line) × ForSome b.spare (λ bytes. length bytes ≡ b.size) };
+    ghost invariant = { λ b. IsSound b.size b.rows.items b.queue.items (vec_capacity b.queue) × ForSome b.spare (λ bytes. length bytes ≡ b.size) };
 }
 
 impl Buffers {
@@ -64,7 +64,7 @@ impl Buffers {
         }
         Ok(Buffers {
             rows,
-            line: Vec::with_capacity(alloc, buffers as usize)?,
+            queue: Vec::with_capacity(alloc, buffers as usize)?,
             spare: Some(Blob::from(vec![in alloc; 0; size as usize]?)),
             size,
         })
@@ -119,13 +119,13 @@ impl Buffers {
         row.append(key, flags, cas, value)
     }
 
-    /// Puts the buffer at the end of the line of those that are to be written. It has to be taken and not
+    /// Puts the buffer at the end of the queue of those that are to be written. It has to be taken and not
     /// sealed.
     pub fn seal(&mut self, id: BufferId)
         requires { IsOpen self.old id.number }
         ensures { self.new ≡ after (seals id.number) self.old }
     {
-        put_last(&mut self.line, id.number);
+        put_last(&mut self.queue, id.number);
     }
 
     /// The oldest sealed buffer's bytes, copied into the spare; `None` where none is sealed or the spare is
@@ -136,7 +136,7 @@ impl Buffers {
         ensures none { (result ≡ None) ↔ IsTrue (is_idle self.old) }
         ensures after { self.new ≡ after begins self.old }
     {
-        let number = *self.line.first()?;
+        let number = *self.queue.first()?;
         let place = self.rows[number as usize].place()?;
         let spare = self.spare.take()?;
         let row = &self.rows[number as usize];
@@ -152,12 +152,12 @@ impl Buffers {
         ensures { self.new ≡ after (writes job) self.old }
     {
         self.take_back(job);
-        let number = self.line.remove(0);
+        let number = self.queue.remove(0);
         let row = &mut self.rows[number as usize];
         row.clear();
     }
 
-    /// Takes back the job of a block that wasn't written: its buffer is still the first of the line. It has to
+    /// Takes back the job of a block that wasn't written: its buffer is still the first of the queue. It has to
     /// be the job that is out.
     pub fn unwritten(&mut self, job: WriteJob)
         requires { IsOut self.old job }
@@ -172,7 +172,7 @@ impl Buffers {
         ensures { self.new ≡ after (drops label) self.old }
     {
         clear_label(&mut self.rows, label);
-        keep_taken(&mut self.line, &self.rows);
+        keep_taken(&mut self.queue, &self.rows);
     }
 
     /// The bytes of the place, where a buffer of its label covers it.
@@ -191,7 +191,7 @@ impl Buffers {
         ensures { self.new ≡ after (unwrites job) self.old }
     {
         // Read for the proof: the first buffer's size is the spare's.
-        let row = &self.rows[self.line[0] as usize];
+        let row = &self.rows[self.queue[0] as usize];
         let _size = row.bytes().len();
         self.spare = Some(job.bytes);
     }
@@ -235,13 +235,13 @@ fn first_covering(rows: &[Buffer], size: u32, place: Place) -> Option<usize>
     None
 }
 
-// Puts a number at the end of the line, which has room for it.
-fn put_last(line: &mut Vec<u32>, number: u32)
-    requires { vec_len line.old < vec_capacity line.old }
-    ensures last { line.new.items ≡ line.old.items ++ number ∷ [] }
-    ensures room { vec_capacity line.old ≤ vec_capacity line.new }
+// Puts a number at the end of the queue, which has room for it.
+fn put_last(queue: &mut Vec<u32>, number: u32)
+    requires { vec_len queue.old < vec_capacity queue.old }
+    ensures last { queue.new.items ≡ queue.old.items ++ number ∷ [] }
+    ensures room { vec_capacity queue.old ≤ vec_capacity queue.new }
 {
-    let _ = line.push(number);
+    let _ = queue.push(number);
 }
 
 // Clears the buffers of the label.
@@ -253,12 +253,12 @@ fn clear_label(rows: &mut [Buffer], label: Label)
     }
 }
 
-// Takes the numbers of free buffers out of the line.
-fn keep_taken(line: &mut Vec<u32>, rows: &[Buffer])
-    ensures kept { line.new.items ≡ filter (λ number. is_some (slice_index_or rows.now number free_slot).block) line.old.items }
-    ensures room { vec_capacity line.new ≡ vec_capacity line.old }
+// Takes the numbers of free buffers out of the queue.
+fn keep_taken(queue: &mut Vec<u32>, rows: &[Buffer])
+    ensures kept { queue.new.items ≡ filter (λ number. is_some (slice_index_or rows.now number free_slot).block) queue.old.items }
+    ensures room { vec_capacity queue.new ≡ vec_capacity queue.old }
 {
-    line.retain(|number| is_taken(rows, *number));
+    queue.retain(|number| is_taken(rows, *number));
 }
 
 fn is_taken(rows: &[Buffer], number: u32) -> bool

@@ -27,13 +27,13 @@ pub fn keeps_the_law()
     ensures out { (t : BufferTable) (job : WriteJob) (calls : List Call) →
         AllAllowed t calls → NoneGivesBack calls → IsOut t job → IsOut (after_all calls t) job }
 
-    // Where no label is dropped, the buffers in the line and those that are sealed are written in their order.
+    // Where no label is dropped, the buffers in the queue and those that are sealed are written in their order.
     ensures in_order { (t : BufferTable) (calls : List Call) →
-        AllDropNone calls → t.line ++ all_sealed calls ≡ all_written t calls ++ (after_all calls t).line }
+        AllDropNone calls → t.queue ++ all_sealed calls ≡ all_written t calls ++ (after_all calls t).queue }
 
     // Where labels are dropped, some of these are left out, and the others are written in their order.
     ensures part { (t : BufferTable) (calls : List Call) →
-        IsPartOf (all_written t calls ++ (after_all calls t).line) (t.line ++ all_sealed calls) }
+        IsPartOf (all_written t calls ++ (after_all calls t).queue) (t.queue ++ all_sealed calls) }
 
     // The bytes of a block are whole records of its version, one behind the other.
     ensures records { (buffers size : ℕ) (calls : List Call) (number : ℕ) →

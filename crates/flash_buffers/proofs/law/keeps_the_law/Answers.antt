@@ -1,5 +1,5 @@
 use Rattle.flash_buffers.proofs.LawLemmas.{kept}
-use Rattle.flash_buffers.proofs.LineLemmas.{all_out, all_order}
+use Rattle.flash_buffers.proofs.QueueLemmas.{all_out, all_order}
 use Rattle.flash_buffers.proofs.OrderLemmas.{all_part}
 use Rattle.flash_buffers.proofs.RecordsLemmas.{are_records}
 use Rattle.flash_buffers.proofs.law.keeps_the_law.Goals as goal

@@ -10,23 +10,23 @@ pub invariant_of-self : goal.invariant_of-self
 invariant_of-self c =
     let size = c.self.inside.size in
     let slots = c.self.inside.rows.items in
-    let line = c.self.inside.line.items in
+    let queue = c.self.inside.queue.items in
     let new = c.clear_label.new.rows in
     let left : List Slot = lent c.self.inside.rows.len slots new in
-    let kept = c.keep_taken.new.line.items in
+    let kept = c.keep_taken.new.queue.items in
     let left_is : left ≡ map (without c.args.label) slots = lent_is c.self.inside.rows.len slots new (omega arith) ∙ c.clear_label.ensures ∙ ap (λ (l : List Slot). map (without c.args.label) l) c.deref_mut.ensures.value in
-    let kept_is : kept ≡ filter (λ n. is_some (get_or left n free_slot).block) line = c.keep_taken.ensures.kept ∙ ap (λ (l : List Slot). filter (λ n. is_some (get_or l n free_slot).block) line) c.deref.ensures.value in
-    let room = vec_capacity c.self.inside.line in
-    (subst (λ (r : ℕ). IsSound size left kept r) (sym c.keep_taken.ensures.room) (sound_dropped size c.args.label slots left line kept room c.self.invariant.0 left_is kept_is), c.self.invariant.1)
+    let kept_is : kept ≡ filter (λ n. is_some (get_or left n free_slot).block) queue = c.keep_taken.ensures.kept ∙ ap (λ (l : List Slot). filter (λ n. is_some (get_or l n free_slot).block) queue) c.deref.ensures.value in
+    let room = vec_capacity c.self.inside.queue in
+    (subst (λ (r : ℕ). IsSound size left kept r) (sym c.keep_taken.ensures.room) (sound_dropped size c.args.label slots left queue kept room c.self.invariant.0 left_is kept_is), c.self.invariant.1)
 
 pub returns : goal.returns
 returns c =
     let size = c.self.inside.size in
     let slots = c.self.inside.rows.items in
-    let line = c.self.inside.line.items in
+    let queue = c.self.inside.queue.items in
     let new = c.clear_label.new.rows in
     let left : List Slot = lent c.self.inside.rows.len slots new in
-    let kept = c.keep_taken.new.line.items in
+    let kept = c.keep_taken.new.queue.items in
     let left_is : left ≡ map (without c.args.label) slots = lent_is c.self.inside.rows.len slots new (omega arith) ∙ c.clear_label.ensures ∙ ap (λ (l : List Slot). map (without c.args.label) l) c.deref_mut.ensures.value in
-    let kept_is : kept ≡ filter (λ n. is_some (get_or left n free_slot).block) line = c.keep_taken.ensures.kept ∙ ap (λ (l : List Slot). filter (λ n. is_some (get_or l n free_slot).block) line) c.deref.ensures.value in
-    rw (← c.self.view_is) (dropped_table size c.args.label slots left line kept (vec_capacity c.self.inside.line) _ c.self.invariant.0 left_is kept_is)
+    let kept_is : kept ≡ filter (λ n. is_some (get_or left n free_slot).block) queue = c.keep_taken.ensures.kept ∙ ap (λ (l : List Slot). filter (λ n. is_some (get_or l n free_slot).block) queue) c.deref.ensures.value in
+    rw (← c.self.view_is) (dropped_table size c.args.label slots left queue kept (vec_capacity c.self.inside.queue) _ c.self.invariant.0 left_is kept_is)

@@ -6,11 +6,11 @@ use Rattle.flash_buffers.proofs.buffers.Buffers.open.Goals as goal
 pub invariant_of-result : goal.invariant_of-result
 invariant_of-result c =
     let slots = c.rows.rows.items in
-    let line = c.in_ok-with_capacity.field-0.items in
+    let queue = c.in_ok-with_capacity.field-0.items in
     let free : Slot = record { size = c.args.size; block = None } in
     let all : c.rows.counter ≡ c.args.buffers = omega arith in
     let slots_are : slots ≡ replicate c.args.buffers free = c.rows.invariant ∙ ap (λ (n : ℕ). replicate n free) all in (
-      sound_first c.args.size c.args.buffers slots line (vec_capacity c.in_ok-with_capacity.field-0) slots_are c.in_ok-with_capacity.ensures.items c.ranges.buffers.fits (omega (arith, c.in_ok-with_capacity.ensures.exact)),
+      sound_first c.args.size c.args.buffers slots queue (vec_capacity c.in_ok-with_capacity.field-0) slots_are c.in_ok-with_capacity.ensures.items c.ranges.buffers.fits (omega (arith, c.in_ok-with_capacity.ensures.exact)),
       λ x is. (let same : x ≡ c.from.result = cc in ap (λ (l : List ℕ). length l) (same ∙ c.from.ensures) ∙ omega (arith, c.in_ok-vec.ensures.len)),
     )
 

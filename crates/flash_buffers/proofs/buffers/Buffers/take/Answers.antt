@@ -15,7 +15,7 @@ invariant_of-self c =
     let inside : n < length slots = omega (arith, c.in_ok-number.ensures.inside) in
     let long : new.size ≡ size = ap (λ (s : Slot). s.size) c.take.ensures ∙ ap (λ (s : Slot). s.size) c.index_mut-row.ensures.value ∙ c.self.invariant.0.sizes n row inside in
     let some : IsSome new.block = subst (λ (s : Slot). IsSome s.block) (sym c.take.ensures) refl in
-    (sound_set size slots c.self.inside.line.items (vec_capacity c.self.inside.line) n new c.self.invariant.0 long some, c.self.invariant.1)
+    (sound_set size slots c.self.inside.queue.items (vec_capacity c.self.inside.queue) n new c.self.invariant.0 long some, c.self.invariant.1)
 
 pub returns-clause-after : goal.returns-clause-after
 returns-clause-after c =

@@ -9,30 +9,30 @@ pub invariant_of-self : goal.invariant_of-self
 invariant_of-self c =
     let size = c.self.inside.size in
     let slots = c.self.inside.rows.items in
-    let line = c.self.inside.line.items in
+    let queue = c.self.inside.queue.items in
     let n = c.remove-number.result in
     let row : Slot = c.index_mut-row.result.now in
     let new : Slot = c.clear.new.self in
-    let some : 0 < length line = omega arith in
-    let inside : n < length slots = first_inside slots line n c.self.invariant.0.taken some c.remove-number.ensures.value in
+    let some : 0 < length queue = omega arith in
+    let inside : n < length slots = first_inside slots queue n c.self.invariant.0.taken some c.remove-number.ensures.value in
     let long : new.size ≡ size = ap (λ (s : Slot). s.size) c.clear.ensures ∙ ap (λ (s : Slot). s.size) c.index_mut-row.ensures.value ∙ c.self.invariant.0.sizes n row inside in
-    let sound = sound_written size slots line (vec_capacity c.self.inside.line) n new c.self.invariant.0 some c.remove-number.ensures.value long in
-    let rest : c.remove-number.new.self.items ≡ drop 1 line = c.remove-number.ensures.items ∙ without_first line in
+    let sound = sound_written size slots queue (vec_capacity c.self.inside.queue) n new c.self.invariant.0 some c.remove-number.ensures.value long in
+    let rest : c.remove-number.new.self.items ≡ drop 1 queue = c.remove-number.ensures.items ∙ without_first queue in
     (rw (rest, c.remove-number.ensures.capacity) sound, c.self.invariant.1)
 
 pub returns : goal.returns
 returns c =
     let size = c.self.inside.size in
     let slots = c.self.inside.rows.items in
-    let line = c.self.inside.line.items in
+    let queue = c.self.inside.queue.items in
     let n = c.remove-number.result in
     let new : Slot = c.clear.new.self in
     let was : Bool = c.args.self.now.out in
-    let some : 0 < length line = omega arith in
-    let rest : c.remove-number.new.self.items ≡ drop 1 line = c.remove-number.ensures.items ∙ without_first line in
+    let some : 0 < length queue = omega arith in
+    let rest : c.remove-number.new.self.items ≡ drop 1 queue = c.remove-number.ensures.items ∙ without_first queue in
     let home : is_none c.self.inside.spare ≡ false = ap (λ (t : BufferTable). t.out) (c.self.view_is ∙ c.take_back.ensures) in
-    let table : BufferTable = record { size = size; blocks = blocks_in slots; line = line; out = was } in
+    let table : BufferTable = record { size = size; blocks = blocks_in slots; queue = queue; out = was } in
     let same : table ≡ c.args.self.now = ap (λ (t : BufferTable). record t { out = was }) (c.self.view_is ∙ c.take_back.ensures) in
-    let last : record { size = size; blocks = blocks_in (set slots n new); line = drop 1 line; out = false } ≡ with_written c.args.self.now c.args.self.now.line =
-    written_table size slots line was n new some c.remove-number.ensures.value (ap (λ (s : Slot). s.block) c.clear.ensures) ∙ ap (λ (t : BufferTable). with_written t t.line) same in
+    let last : record { size = size; blocks = blocks_in (set slots n new); queue = drop 1 queue; out = false } ≡ with_written c.args.self.now c.args.self.now.queue =
+    written_table size slots queue was n new some c.remove-number.ensures.value (ap (λ (s : Slot). s.block) c.clear.ensures) ∙ ap (λ (t : BufferTable). with_written t t.queue) same in
     rw (rest, home) last
