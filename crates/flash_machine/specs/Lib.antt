@@ -1,10 +1,12 @@
 pub mod Cache
 pub mod Codes
+pub mod Finding
 pub mod Item
 pub mod Laws
 pub mod Legal
 pub mod Live
 pub mod Looking
 pub mod Moments
+pub mod Rising
 pub mod Steps
 pub mod Storing

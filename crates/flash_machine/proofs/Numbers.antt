@@ -1,0 +1,150 @@
+-- What a step keeps of the moment and of the CAS numbers.
+use Rattle.std.proofs.Common.{◌≡◌, ℕ, ◌+◌, ◌≤◌, Bool, true, false, List, [], ◌∷◌, ◌++◌, Option, None, Some, cond, refl, sym, ◌∙◌, subst, arith}
+use Rattle.std.specs.Ordering.{nat_cmp, eq_by_cmp}
+use Rattle.std.specs.Cmp.Lexicographic.{slice_cmp, nat_list_cmp_total}
+use Rattle.std.specs.FinMap as map
+use Rattle.std.proofs.lemmas.Bool.{cond_both}
+use Rattle.flash_names.specs.declared.geometry.Geometry.{Geometry}
+use Rattle.flash_entry.specs.declared.ask.Mode.{Mode}
+use Rattle.flash_entry.specs.declared.ask.Mode.TheVariants.{Append, Prepend}
+use Rattle.flash_entry.specs.declared.ask.Put.{Put}
+use Rattle.flash_entry.specs.declared.ask.Look.{Look}
+use Rattle.flash_entry.specs.declared.answer.Stored.{Stored}
+use Rattle.flash_entry.specs.declared.entry.Done.{Done}
+use Rattle.flash_entry.specs.declared.entry.Done.TheVariants as deeds
+use Rattle.flash_entry.specs.declared.entry.Entry.{Entry}
+use Rattle.flash_entry.specs.declared.entry.Entry.TheVariants as entries
+use Rattle.flash_machine.specs.Moments.{is_reached}
+use Rattle.flash_machine.specs.Item.{Item}
+use Rattle.flash_machine.specs.Cache.{Items, Cache, first_cache}
+use Rattle.flash_machine.specs.Live.{is_live, where_passes, live_item}
+use Rattle.flash_machine.specs.Storing.{stored_item, stored_or, refusal}
+use Rattle.flash_machine.specs.Looking.{fetched_item, look_next}
+use Rattle.flash_machine.specs.Steps.{clock_next, done_next, next, cache_from, cache_of}
+use Rattle.flash_machine.specs.Legal.{Meets, LegalFrom}
+use Rattle.flash_machine.specs.Rising.{AreNumbered}
+
+-- an item that passes a test is the one that was there
+passed_step : (b : Bool) (old item : Item) → cond b (Some old) None ≡ Some item → Some old ≡ Some item
+passed_step true old item is = is
+passed_step false old item is = absurd (cc is)
+
+pub passed : (test : Item → Bool) (found : Option Item) (item : Item) → where_passes test found ≡ Some item → found ≡ Some item
+passed test None item is = absurd (cc is)
+passed test (Some old) item is = passed_step (test old) old item is
+
+-- the item that a store stores has the next CAS number
+pub stored_cas : (c : Cache) (put : Put) (mode : Mode) (live : Option Item) → (stored_item c put mode live).cas ≡ c.last_cas + 1
+stored_cas c put Append (Some item) = refl
+stored_cas c put Prepend (Some item) = refl
+stored_cas c put _ _ = refl
+
+-- the moment rises with the clock, and no other step changes it
+rises_to : (c : Cache) (moment : ℕ) → c.now ≤ moment → c.now ≤ (clock_next c moment).now
+rises_to c moment rises = cond_both (is_reached c.pending_flush moment) _ _ (λ (d : Cache). c.now ≤ d.now) (λ _. rises) (λ _. rises)
+
+stored_moment : (r : Option Stored) (c : Cache) (key : List ℕ) (item : Item) → c.now ≤ (stored_or r c key item).1.now
+stored_moment None c key item = omega arith
+stored_moment (Some refusal) c key item = omega arith
+
+done_moment : (g : Geometry) (h : List Entry) (c : Cache) (done : Done) → c.now ≤ (done_next g h c done).now
+done_moment g h c (deeds.Store put answer) = stored_moment (refusal g c put (live_item h c put.key)) c put.key (stored_item c put put.mode (live_item h c put.key))
+done_moment g h c _ = omega arith
+
+looked_moment : (c : Cache) (key : List ℕ) (look : Look) (live : Option Item) → c.now ≤ (look_next c key look live).now
+looked_moment c key look None = omega arith
+looked_moment c key look (Some item) = omega arith
+
+moment_rises : (g : Geometry) (h : List Entry) (c : Cache) (e : Entry) → Meets g h c e → c.now ≤ (next g h c e).now
+moment_rises g h c (entries.Clock moment) meets = rises_to c moment (omega (arith, meets.above))
+moment_rises g h c (entries.Did id done) meets = done_moment g h c done
+moment_rises g h c (entries.Looked id key look seen) meets = looked_moment c key look (live_item h c key)
+moment_rises g h c (entries.Dropped key cause) meets = omega arith
+moment_rises g h c _ meets = absurd meets
+
+pub moment_from : (g : Geometry) (h : List Entry) (c : Cache) (es : List Entry) → LegalFrom g h c es → c.now ≤ (cache_from g h c es).now
+moment_from g h c [] legal = omega arith
+moment_from g h c (e ∷ es) legal =
+    omega (arith, moment_rises g h c e legal.0, moment_from g (h ++ e ∷ []) (next g h c e) es legal.1)
+
+-- each item and the flush mark have numbers up to the last one
+pub record HasNumbers (c : Cache) : Type 0 where
+  pub mark : c.flush_mark ≤ c.last_cas
+  pub items : AreNumbered c.last_cas c.items
+
+-- what a step makes of the last number and of those of the items
+record GoesUp (c after : Cache) : Type 0 where
+  rises : c.last_cas ≤ after.last_cas
+  numbers : HasNumbers c → HasNumbers after
+
+stays : (c : Cache) → GoesUp c c
+stays c = record { rises = omega arith; numbers = λ was. was }
+
+-- the items with one put in
+inserted_step : (last : ℕ) (new old item : Item) (b : Bool) (found : Option Item) → (1 ≤ new.cas) × (new.cas ≤ last) → (found ≡ Some item → (1 ≤ item.cas) × (item.cas ≤ last))
+    → cond b (Some new) found ≡ Some item → (1 ≤ item.cas) × (item.cas ≤ last)
+inserted_step last new old item true found numbered rest is = let same : new ≡ item = cc in subst (λ (i : Item). (1 ≤ i.cas) × (i.cas ≤ last)) same numbered
+inserted_step last new old item false found numbered rest is = rest is
+
+numbered_insert : (last : ℕ) (items : Items) (key : List ℕ) (new : Item) → (1 ≤ new.cas) × (new.cas ≤ last) → AreNumbered last items → AreNumbered last (map.insert items key new)
+numbered_insert last items key new numbered was q item is =
+    inserted_step last new new item (eq_by_cmp (slice_cmp nat_cmp) q key) (map.get items q) numbered (was q item) (sym (map.get-insert nat_list_cmp_total items key new q) ∙ is)
+
+removed_step : (last : ℕ) (item : Item) (b : Bool) (found : Option Item) → (found ≡ Some item → (1 ≤ item.cas) × (item.cas ≤ last)) → cond b None found ≡ Some item → (1 ≤ item.cas) × (item.cas ≤ last)
+removed_step last item true found rest is = absurd (cc is)
+removed_step last item false found rest is = rest is
+
+numbered_remove : (last : ℕ) (items : Items) (key : List ℕ) → AreNumbered last items → AreNumbered last (map.remove items key)
+numbered_remove last items key was q item is =
+    removed_step last item (eq_by_cmp (slice_cmp nat_cmp) q key) (map.get items q) (was q item) (sym (map.get-remove nat_list_cmp_total items key q) ∙ is)
+
+numbered_more : (last more : ℕ) (items : Items) → last ≤ more → AreNumbered last items → AreNumbered more items
+numbered_more last more items rises was q item is = let one = was q item is in (one.0, omega (arith, one.1, rises))
+
+clock_up : (c : Cache) (moment : ℕ) → GoesUp c (clock_next c moment)
+clock_up c moment =
+    cond_both (is_reached c.pending_flush moment) _ _ (GoesUp c) (λ _. record { rises = omega arith; numbers = λ was. record { mark = omega arith; items = was.items } })
+    (λ _. record { rises = omega arith; numbers = λ was. record { mark = was.mark; items = was.items } })
+
+stored_up : (r : Option Stored) (c : Cache) (key : List ℕ) (item : Item) → item.cas ≡ c.last_cas + 1 → GoesUp c (stored_or r c key item).1
+stored_up (Some refusal) c key item number = stays c
+stored_up None c key item number = record {
+  rises = omega arith;
+  numbers = λ was. record {
+    mark = omega (arith, was.mark);
+    items = numbered_insert (c.last_cas + 1) c.items key item (omega (arith, number), omega (arith, number)) (numbered_more c.last_cas (c.last_cas + 1) c.items (omega arith) was.items);
+  };
+}
+
+done_up : (g : Geometry) (h : List Entry) (c : Cache) (done : Done) → GoesUp c (done_next g h c done)
+done_up g h c (deeds.Store put answer) =
+    let live = live_item h c put.key in stored_up (refusal g c put live) c put.key (stored_item c put put.mode live) (stored_cas c put put.mode live)
+done_up g h c _ = stays c
+
+looked_up : (c : Cache) (key : List ℕ) (look : Look) (live : Option Item) → ((item : Item) → live ≡ Some item → map.get c.items key ≡ Some item) → GoesUp c (look_next c key look live)
+looked_up c key look None there = stays c
+looked_up c key look (Some item) there = record {
+  rises = omega arith;
+  numbers = λ was. record { mark = was.mark; items = numbered_insert c.last_cas c.items key (fetched_item c look item) (was.items key item (there item refl)) was.items };
+}
+
+step_up : (g : Geometry) (h : List Entry) (c : Cache) (e : Entry) → GoesUp c (next g h c e)
+step_up g h c (entries.Clock moment) = clock_up c moment
+step_up g h c (entries.Did id done) = done_up g h c done
+step_up g h c (entries.Looked id key look seen) = looked_up c key look (live_item h c key) (passed (is_live h c) (map.get c.items key))
+step_up g h c (entries.Dropped key cause) = record { rises = omega arith; numbers = λ was. record { mark = was.mark; items = numbered_remove c.last_cas c.items key was.items } }
+step_up g h c _ = stays c
+
+pub last_from : (g : Geometry) (h : List Entry) (c : Cache) (es : List Entry) → c.last_cas ≤ (cache_from g h c es).last_cas
+last_from g h c [] = omega arith
+last_from g h c (e ∷ es) = omega (arith, (step_up g h c e).rises, last_from g (h ++ e ∷ []) (next g h c e) es)
+
+numbers_from : (g : Geometry) (h : List Entry) (c : Cache) (es : List Entry) → HasNumbers c → HasNumbers (cache_from g h c es)
+numbers_from g h c [] was = was
+numbers_from g h c (e ∷ es) was = numbers_from g (h ++ e ∷ []) (next g h c e) es ((step_up g h c e).numbers was)
+
+first_numbers : HasNumbers first_cache
+first_numbers = record { mark = omega arith; items = λ key item is. absurd (cc (sym (map.get-empty (slice_cmp nat_cmp) key) ∙ is)) }
+
+pub has_numbers : (g : Geometry) (h : List Entry) → HasNumbers (cache_of g h)
+has_numbers g h = numbers_from g [] first_cache h first_numbers
