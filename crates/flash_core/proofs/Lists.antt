@@ -16,11 +16,11 @@ use Rattle.flash_core.specs.declared.item.Item.{Item}
 use Rattle.flash_core.specs.Items.{find_item, without, item_of, pair_of, items_of, keys_of, cache_of_items, HaveOwnKeys, IsKept, AreKept}
 use Rattle.flash_core.specs.Places.{IsPlace, removed, in_front}
 use Rattle.flash_core.specs.Store.{Desk, Call}
-use Rattle.flash_core.specs.Calls.{drop_of, is_dead_at, sweep}
-use Rattle.flash_core.specs.Choice.{Chosen, chosen, items_behind, leaving}
+use Rattle.flash_core.specs.Calls.{drop_of, is_dead_at, swept, sweep}
+use Rattle.flash_core.specs.Choice.{Chosen, chosen, cached_item, leaving}
 use Rattle.flash_core.proofs.Pairs.{get-items, items_of-without, items_of-in_front}
 use Rattle.flash_core.proofs.Kept.{own-without, own-in_front, none-without, kept_found, keys_of-without, without-absent, removed_is_without}
-use Rattle.flash_core.proofs.Sweeps.{swept, IsHere}
+use Rattle.flash_core.proofs.Sweeps.{IsHere}
 
 -- what stands at a key's place is its first item
 pub found_at : (key : List ℕ) (items : List Item) (place : Option ℕ) → IsPlace key items place → option_and_then (slice_get items) place ≡ find_item key items
@@ -92,9 +92,9 @@ module _ (items : List Item) (moment last : ℕ) (key : List ℕ) (item_max : �
 
   -- the live item by the code's test
   pub live_is : (dead : Bool) (place : Option ℕ) (live : Option Item) → IsPlace key items place → live ≡ (if dead then None else option_and_then (slice_get items) place)
-      → items_behind live ≡ finite.get (items_of (swept_items dead key items)) key
-  live_is true place live at is = ap items_behind is ∙ sym (get-items (without key items) key ∙ ap (option_map item_of) (none-without key items own))
-  live_is false place live at is = ap items_behind (is ∙ found_at key items place at) ∙ sym (get-items items key)
+      → cached_item live ≡ finite.get (items_of (swept_items dead key items)) key
+  live_is true place live at is = ap cached_item is ∙ sym (get-items (without key items) key ∙ ap (option_map item_of) (none-without key items own))
+  live_is false place live at is = ap cached_item (is ∙ found_at key items place at) ∙ sym (get-items items key)
 
   -- the items after a store that chose a refusal or an item
   pub after_items : (dead : Bool) (place : Option ℕ) (item : Option Item) → IsPlace key items place

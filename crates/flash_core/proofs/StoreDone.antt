@@ -17,7 +17,7 @@ use Rattle.flash_core.specs.declared.choice.Choice.{Choice}
 use Rattle.flash_core.specs.Items.{cache_of_items, HaveOwnKeys, AreKept}
 use Rattle.flash_core.specs.Places.{IsPlace, removed, in_front}
 use Rattle.flash_core.specs.Calls.{drop_of, store_call}
-use Rattle.flash_core.specs.Choice.{choice_of, chosen_by, items_behind, leaving}
+use Rattle.flash_core.specs.Choice.{choice_of, chosen_by, cached_item, leaving}
 use Rattle.flash_core.specs.Sound.{IsSound, IsNewTold, IsToldRun}
 use Rattle.flash_core.proofs.Lists.{desk_of, all_here, after_items}
 use Rattle.flash_core.proofs.Stored.{stored_items, own_after, kept_after, StoresAs, stores_as}
@@ -41,7 +41,7 @@ module _ (g : Geometry) (items : List Item) (moment last : ℕ) (told : Option (
       → IsPlace put.key items place
       → dead ≡ option_map_or (λ item. is_reached item.deadline moment) (option_and_then (slice_get items) place) false
       → live ≡ (if dead then None else option_and_then (slice_get items) place)
-      → chosen_by choice ≡ choice_of g moment last put (items_behind live)
+      → chosen_by choice ≡ choice_of g moment last put (cached_item live)
       → last ≤ choice.last_cas
       → AreKept g.item_max choice.last_cas (option_to_list choice.item)
       → items2 ≡ in_front choice.item (removed (leaving place (dead || is_some choice.item)) items)

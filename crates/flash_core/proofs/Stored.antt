@@ -19,7 +19,7 @@ use Rattle.flash_core.specs.Items.{without, item_of, pair_of, items_of, keys_of,
 use Rattle.flash_core.specs.Places.{IsPlace, removed, in_front}
 use Rattle.flash_core.specs.Store.{Desk, Call}
 use Rattle.flash_core.specs.Calls.{keys_without, drop_of, store_after, store_call, stored_desk}
-use Rattle.flash_core.specs.Choice.{Chosen, chosen, choice_of, numbers, items_behind, leaving}
+use Rattle.flash_core.specs.Choice.{Chosen, chosen, choice_of, cache_without_items, cached_item, leaving}
 use Rattle.flash_core.proofs.Pairs.{items_of-in_front}
 use Rattle.flash_core.proofs.Kept.{own-without, own-in_front, none-without, kept-without, kept-more, keys_of-without, without-absent}
 use Rattle.flash_core.proofs.Lists.{swept_items, desk_of, dead_is, swept_call, swept_call_is, live_is, after_items}
@@ -126,11 +126,11 @@ module _ (g : Geometry) (items : List Item) (moment last : ℕ) (put : Put) (ite
   -- the call behind the sweep, by the live item that the code found
   after_live : (id : Id) (dead : Bool) (live : Option machine.Item) (answer : Stored) (item : Option Item) (last2 : ℕ)
       → live ≡ finite.get (items_of (swept_items dead key items)) key
-      → Chose (refusal g (numbers moment last) put live) last key (stored_item (numbers moment last) put put.mode live) answer item last2
+      → Chose (refusal g (cache_without_items moment last) put live) last key (stored_item (cache_without_items moment last) put put.mode live) answer item last2
       → StoresAs id dead answer item last2 (store_after g (swept_call items moment last key item_max own kept dead) id put)
   after_live id dead live answer item last2 at chose =
-      let r = refusal g (numbers moment last) put live in
-      let new = stored_item (numbers moment last) put put.mode live in
+      let r = refusal g (cache_without_items moment last) put live in
+      let new = stored_item (cache_without_items moment last) put put.mode live in
       let left = leaves items moment last key item_max own kept r new dead answer item last2 chose in
       let step = λ (l : Option machine.Item). store_step g (swept_call items moment last key item_max own kept dead).cache put l in
       let answer_is : answer ≡ (store_after g (swept_call items moment last key item_max own kept dead) id put).answer = left.answer_is ∙ ap (λ (l : Option machine.Item). (step l).0) at in
@@ -146,9 +146,9 @@ module _ (g : Geometry) (items : List Item) (moment last : ℕ) (put : Put) (ite
       → IsPlace key items place
       → dead ≡ option_map_or (λ item. is_reached item.deadline moment) (option_and_then (slice_get items) place) false
       → live ≡ (if dead then None else option_and_then (slice_get items) place)
-      → ◌≡◌ {A = Chosen} (answer, (option_map pair_of item, last2)) (choice_of g moment last put (items_behind live))
+      → ◌≡◌ {A = Chosen} (answer, (option_map pair_of item, last2)) (choice_of g moment last put (cached_item live))
       → StoresAs id dead answer item last2 (store_call g (cache_of_items items moment last) (desk_of items) id put)
   stores_as id dead place live answer item last2 at dead_at live_at chose =
       let is_dead = dead_is items moment last key item_max own kept dead place at dead_at in
       subst (λ (s : Call Bool). StoresAs id dead answer item last2 (store_after g s id put)) (sym (swept_call_is items moment last key item_max own kept dead is_dead))
-      (after_live id dead (items_behind live) answer item last2 (live_is items moment last key item_max own kept dead place live at live_at) chose)
+      (after_live id dead (cached_item live) answer item last2 (live_is items moment last key item_max own kept dead place live at live_at) chose)

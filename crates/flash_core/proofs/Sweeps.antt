@@ -13,7 +13,7 @@ use Rattle.flash_machine.specs.Cache.{Cache}
 use Rattle.flash_machine.specs.Live.{is_dead, is_live, has_ended, where_passes, live_item}
 use Rattle.flash_machine.specs.Legal.{IsNew}
 use Rattle.flash_core.specs.Store.{Desk, Call}
-use Rattle.flash_core.specs.Calls.{keys_without, is_dead_at, sweep}
+use Rattle.flash_core.specs.Calls.{is_dead_at, swept, sweep}
 use Rattle.flash_core.proofs.Keys.{bytes_eq-refl}
 use Rattle.flash_core.proofs.Pairs.{get-removed}
 use Rattle.flash_core.proofs.Told.{Goes}
@@ -22,16 +22,6 @@ use Rattle.flash_core.proofs.News.{new_behind}
 -- the item under the key, if there is one, is in memory
 abbrev pub IsHere : Cache → List ℕ → Type 0
 IsHere c key = (item : Item) → finite.get c.items key ≡ Some item → item.label ≡ None
-
--- a sweep that drops, or not
-abbrev pub swept : Cache → Desk → List ℕ → Bool → Call Bool
-swept c desk key dead =
-    if dead then (record {
-      entries = entries.Dropped key drops.Dead ∷ [];
-      cache = record c { items = finite.remove c.items key };
-      desk = record { hot = keys_without key desk.hot };
-      answer = true;
-    }) else (record { entries = []; cache = c; desk = desk; answer = false })
 
 gone : (c : Cache) (key : List ℕ) → finite.get (finite.remove c.items key) key ≡ None
 gone c key = get-removed c.items key key ∙ ap (λ b. cond b None (finite.get c.items key)) (bytes_eq-refl key)

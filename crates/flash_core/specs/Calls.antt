@@ -35,17 +35,21 @@ is_dead_at c (Some item) = is_dead c item
 abbrev pub drop_of : List ℕ → Bool → List Entry
 drop_of key dead = if dead then entries.Dropped key drops.Dead ∷ [] else []
 
--- a dead item under the key is dropped before a call that names the key does anything else
-abbrev pub sweep : Cache → Desk → List ℕ → Call Bool
-sweep c desk key =
-    if is_dead_at c (finite.get c.items key) then (record {
-      entries = entries.Dropped key drops.Dead ∷ [];
+-- a key's item is dropped because it is dead, or it isn't
+abbrev pub swept : Cache → Desk → List ℕ → Bool → Call Bool
+swept c desk key dead =
+    if dead then (record {
+      entries = drop_of key true;
       cache = record c { items = finite.remove c.items key };
       desk = record { hot = keys_without key desk.hot };
       answer = true;
-    }) else (record { entries = []; cache = c; desk = desk; answer = false })
+    }) else (record { entries = drop_of key false; cache = c; desk = desk; answer = false })
 
--- the desk after a store that was refused or not: the item that was stored is in front
+-- a dead item under the key is dropped before a call that names the key does anything else
+abbrev pub sweep : Cache → Desk → List ℕ → Call Bool
+sweep c desk key = swept c desk key (is_dead_at c (finite.get c.items key))
+
+-- the order after a store: a refusal leaves it, a stored item's key stands in front
 abbrev pub stored_desk : Option Stored → Desk → List ℕ → Desk
 stored_desk None desk key = record { hot = key ∷ keys_without key desk.hot }
 stored_desk (Some refusal) desk key = desk
@@ -61,6 +65,7 @@ store_after g swept id put =
       answer = step.0;
     }
 
+-- what a store does: it sweeps its key, and then does a store
 abbrev pub store_call : Geometry → Cache → Desk → Id → Put → Call Stored
 store_call g c desk id put = store_after g (sweep c desk put.key) id put
 
@@ -80,6 +85,7 @@ look_after swept id key look =
       answer = found_of swept.cache look live;
     }
 
+-- what a lookup does: it sweeps its key, and then looks it up
 abbrev pub look_call : Cache → Desk → Id → List ℕ → Look → Call Found
 look_call c desk id key look = look_after (sweep c desk key) id key look
 
@@ -89,5 +95,6 @@ clock_to c desk moment =
     if nat_lt c.now moment then (record { entries = entries.Clock moment ∷ []; cache = clock_next c moment; desk = desk; answer = true })
     else (record { entries = []; cache = c; desk = desk; answer = false })
 
+-- what a reading of the clock does: above 2^62 it counts as 2^62
 abbrev pub clock_call : Cache → Desk → ℕ → Call Bool
 clock_call c desk reading = clock_to c desk (min reading (2 ^ 62))

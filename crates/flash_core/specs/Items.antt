@@ -11,12 +11,12 @@ abbrev pub find_item : List ℕ → List Item → Option Item
 find_item key [] = None
 find_item key (i ∷ is) = if bytes_eq key i.key then Some i else find_item key is
 
--- the others
+-- the items but for the first with the key
 abbrev pub without : List ℕ → List Item → List Item
 without key [] = []
 without key (i ∷ is) = if bytes_eq key i.key then is else i ∷ without key is
 
--- the same with another in its place
+-- the items with another in the place of the first with the key
 abbrev pub replaced : List ℕ → Item → List Item → List Item
 replaced key new [] = []
 replaced key new (i ∷ is) = if bytes_eq key i.key then new ∷ is else i ∷ replaced key new is
@@ -37,7 +37,7 @@ pub record IsKept (item_max last : ℕ) (i : Item) : Type 0 where
   pub deadline : HasDeadline i
   pub size : length i.value ≤ item_max
 
--- each item is so
+-- each item is kept so
 abbrev pub AreKept : ℕ → ℕ → List Item → Type 0
 AreKept item_max last [] = Unit {0}
 AreKept item_max last (i ∷ is) = IsKept item_max last i × AreKept item_max last is
@@ -71,6 +71,6 @@ abbrev pub cache_of_items : List Item → ℕ → ℕ → Cache
 cache_of_items is now last_cas = record { items = items_of is; now = now; last_cas = last_cas; flush_mark = 0; pending_flush = None }
 
 -- what a head needs of an item: a deadline below 2^63, and a value below 4 GiB
-pub record IsTold (i : Item) : Type 0 where
+pub record HasHead (i : Item) : Type 0 where
   pub deadline : HasDeadline i
   pub size : length i.value < 2 ^ 32

@@ -27,15 +27,16 @@ in_front None items = items
 in_front (Some item) items = item ∷ items
 
 -- an item after it was found
-abbrev pub touched : Option ℤ → ℕ → Item → Item
-touched renew moment i = record i { deadline = renewed_to renew i.deadline moment; fetched = true; access = moment }
+abbrev pub marked : Option ℤ → ℕ → Item → Item
+marked renew moment i = record i { deadline = renewed_to renew i.deadline moment; fetched = true; access = moment }
 
-abbrev pub touched_in : (Item → Item) → List Item → ℕ → Option Item → List Item
-touched_in change items at None = items
-touched_in change items at (Some i) = slice_set items at (change i)
+-- the items with the one at a place changed, where there is one
+abbrev pub marked_in : (Item → Item) → List Item → ℕ → Option Item → List Item
+marked_in change items at None = items
+marked_in change items at (Some i) = slice_set items at (change i)
 
 -- the items without the one at a place where it is dead, and else with it as it is after it was found
-abbrev pub touched_at : Option ℤ → ℕ → Option ℕ → Bool → List Item → List Item
-touched_at renew moment None dead items = items
-touched_at renew moment (Some at) true items = remove items at
-touched_at renew moment (Some at) false items = touched_in (touched renew moment) items at (slice_get items at)
+abbrev pub marked_at : Option ℤ → ℕ → Option ℕ → Bool → List Item → List Item
+marked_at renew moment None dead items = items
+marked_at renew moment (Some at) true items = remove items at
+marked_at renew moment (Some at) false items = marked_in (marked renew moment) items at (slice_get items at)

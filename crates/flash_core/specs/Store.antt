@@ -13,6 +13,7 @@ pub record Desk : Type 0 where
   -- the keys of the items, the one stored last in front
   pub hot : List (List ℕ)
 
+-- a store by its geometry, its journal, its cache and its desk
 pub record Store : Type 0 where
   pub geometry : Geometry
   -- the journal's entries, where it tells them

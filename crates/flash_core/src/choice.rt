@@ -4,7 +4,7 @@ ghost use Rattle.std.specs.Option.{ForSome, option_copied, option_to_list};
 ghost use Rattle.flash_machine.specs.Moments.{deadline};
 ghost use Rattle.flash_machine.specs.Storing.{mode_fails, compare_refusal, stored_value, stored_item, refusal};
 ghost use Rattle.flash_core.specs.Items.{AreKept, HasDeadline, item_of};
-ghost use Rattle.flash_core.specs.Choice.{choice_of, chosen_by, numbers, items_behind};
+ghost use Rattle.flash_core.specs.Choice.{choice_of, chosen_by, cache_without_items, cached_item};
 
 use crate::item::Item;
 use flash_entry::{Mode, Put, Stored};
@@ -36,7 +36,7 @@ pub fn choose(
 ) -> Result<Choice, AllocError>
     requires moment { now ≤ 2 ^ 62 }
     requires deadline { ForSome (option_copied live) HasDeadline }
-    ensures chosen { IfOk result (λ choice. chosen_by choice ≡ choice_of geometry.now now last_cas put.now (items_behind (option_copied live.entry))) }
+    ensures chosen { IfOk result (λ choice. chosen_by choice ≡ choice_of geometry.now now last_cas put.now (cached_item (option_copied live.entry))) }
     ensures rises { IfOk result (λ choice. last_cas ≤ choice.last_cas) }
     ensures kept { IfOk result (λ choice. AreKept geometry.now.item_max choice.last_cas (option_to_list choice.item)) }
 {
@@ -60,14 +60,14 @@ pub fn choose(
 
 // Why the value isn't stored, if it isn't.
 fn refusal_of(geometry: &Geometry, last_cas: u64, put: &Put, live: Option<&Item>) -> Option<Stored>
-    ensures exact { (now : ℕ) → result ≡ refusal geometry.now (numbers now last_cas) put.now (items_behind (option_copied live.entry)) }
+    ensures exact { (now : ℕ) → result ≡ refusal geometry.now (cache_without_items now last_cas) put.now (cached_item (option_copied live.entry)) }
     ensures room { IsNone result → last_cas < 2 ^ 63 }
-    ensures fits { IsNone result → length (stored_value put.now put.now.mode (items_behind (option_copied live.entry))) ≤ geometry.now.item_max }
+    ensures fits { IsNone result → length (stored_value put.now put.now.mode (cached_item (option_copied live.entry))) ≤ geometry.now.item_max }
 {
-    if is_refused(put.mode, live) {
+    if mode_fails(put.mode, live) {
         return Some(Stored::NotStored);
     }
-    if let Some(answer) = compared(put.compare, live) {
+    if let Some(answer) = compare_refusal(put.compare, live) {
         return Some(answer);
     }
     if is_too_large(geometry.item_max, put, live) {
@@ -80,8 +80,8 @@ fn refusal_of(geometry: &Geometry, last_cas: u64, put: &Put, live: Option<&Item>
 }
 
 // Whether the mode's condition fails. Every item's value is in memory, so that it can be joined to.
-fn is_refused(mode: Mode, live: Option<&Item>) -> bool
-    ensures { result ≡ mode_fails mode (items_behind (option_copied live.entry)) }
+fn mode_fails(mode: Mode, live: Option<&Item>) -> bool
+    ensures { result ≡ mode_fails mode (cached_item (option_copied live.entry)) }
 {
     match mode {
         Mode::Set => false,
@@ -91,8 +91,8 @@ fn is_refused(mode: Mode, live: Option<&Item>) -> bool
 }
 
 // The refusal by a CAS number that was given.
-fn compared(compare: Option<u64>, live: Option<&Item>) -> Option<Stored>
-    ensures { result ≡ compare_refusal compare (items_behind (option_copied live.entry)) }
+fn compare_refusal(compare: Option<u64>, live: Option<&Item>) -> Option<Stored>
+    ensures { result ≡ compare_refusal compare (cached_item (option_copied live.entry)) }
 {
     match (compare, live) {
         (None, _) => None,
@@ -107,9 +107,10 @@ fn compared(compare: Option<u64>, live: Option<&Item>) -> Option<Stored>
     }
 }
 
-// The value in front of the command's and the one behind it that the mode joins it to.
+// The value that is stored, in two parts: the item's and the command's in the order of the mode, else the
+// command's and nothing.
 fn joined<'a>(put: &'a Put, live: Option<&'a Item>) -> (&'a [u8], &'a [u8])
-    ensures { result.0.now ++ result.1.now ≡ stored_value put.now put.now.mode (items_behind (option_copied live.entry)) }
+    ensures { result.0.now ++ result.1.now ≡ stored_value put.now put.now.mode (cached_item (option_copied live.entry)) }
 {
     match (put.mode, live) {
         (Mode::Append, Some(item)) => (item.value.bytes(), put.value.bytes()),
@@ -118,8 +119,9 @@ fn joined<'a>(put: &'a Put, live: Option<&'a Item>) -> (&'a [u8], &'a [u8])
     }
 }
 
+// Whether the value that is stored is longer than it may be.
 fn is_too_large(item_max: u32, put: &Put, live: Option<&Item>) -> bool
-    ensures { result ≡ nat_lt item_max (length (stored_value put.now put.now.mode (items_behind (option_copied live.entry)))) }
+    ensures { result ≡ nat_lt item_max (length (stored_value put.now put.now.mode (cached_item (option_copied live.entry)))) }
 {
     let (front, back) = joined(put, live);
     front.len().saturating_add(back.len()) > item_max as usize
@@ -136,13 +138,13 @@ fn new_item(
     requires moment { now ≤ 2 ^ 62 }
     requires deadline { ForSome (option_copied live) HasDeadline }
     ensures item { IfOk result (λ item. (item.key ≡ put.now.key) × (item.cas ≡ cas)
-        × ((last_cas : ℕ) → cas ≡ last_cas + 1 → item_of item ≡ stored_item (numbers now last_cas) put.now put.now.mode (items_behind (option_copied live.entry)))) }
+        × ((last_cas : ℕ) → cas ≡ last_cas + 1 → item_of item ≡ stored_item (cache_without_items now last_cas) put.now put.now.mode (cached_item (option_copied live.entry)))) }
     ensures deadline { IfOk result HasDeadline }
-    ensures value { IfOk result (λ item. item.value ≡ stored_value put.now put.now.mode (items_behind (option_copied live.entry))) }
+    ensures value { IfOk result (λ item. item.value ≡ stored_value put.now put.now.mode (cached_item (option_copied live.entry))) }
 {
     let (front, back) = joined(put, live);
     let value = concatenated(alloc, front, back)?;
-    let (flags, deadline) = kept(now, put, live);
+    let (flags, deadline) = flags_and_deadline(now, put, live);
     Ok(Item {
         key: put.key.copy(),
         flags,
@@ -154,6 +156,7 @@ fn new_item(
     })
 }
 
+// The two parts in memory of their own.
 fn concatenated(alloc: Global, front: &[u8], back: &[u8]) -> Result<Blob, AllocError>
     ensures { IfOk result (λ blob. blob ≡ front.now ++ back.now) }
 {
@@ -165,11 +168,11 @@ fn concatenated(alloc: Global, front: &[u8], back: &[u8]) -> Result<Blob, AllocE
 
 // The flags and the deadline of the item that is stored: those of the item that a value is joined to, and
 // else those of the command.
-fn kept(now: u64, put: &Put, live: Option<&Item>) -> (u32, Option<u64>)
+fn flags_and_deadline(now: u64, put: &Put, live: Option<&Item>) -> (u32, Option<u64>)
     requires moment { now ≤ 2 ^ 62 }
     requires deadline { ForSome (option_copied live) HasDeadline }
     ensures deadline { IfSome result.1 (λ moment. moment < 2 ^ 63) }
-    ensures kept { (last_cas : ℕ) → let item = stored_item (numbers now last_cas) put.now put.now.mode (items_behind (option_copied live.entry)) in
+    ensures kept { (last_cas : ℕ) → let item = stored_item (cache_without_items now last_cas) put.now put.now.mode (cached_item (option_copied live.entry)) in
         (result.0 ≡ item.flags) × (result.1 ≡ item.deadline) }
 {
     match (put.mode, live) {

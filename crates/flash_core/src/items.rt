@@ -24,7 +24,7 @@ fn first_with(items: &[Item], key: &[u8]) -> Option<usize>
 
 impl Item {
     // Whether its deadline was reached.
-    pub fn is_dead(&self, now: u64) -> bool
+    pub fn is_expired(&self, now: u64) -> bool
         ensures { result ≡ is_reached self.now.deadline now }
     {
         match self.deadline {
@@ -41,7 +41,7 @@ pub fn dead_at(items: &[Item], place: Option<usize>, now: u64) -> bool
 {
     match place {
         None => false,
-        Some(at) => items[at].is_dead(now),
+        Some(at) => items[at].is_expired(now),
     }
 }
 

@@ -7,6 +7,7 @@ mod found;
 mod item;
 mod items;
 mod look;
+mod noting;
 mod state;
 mod store;
 

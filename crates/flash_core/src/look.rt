@@ -1,10 +1,10 @@
-ghost use Rattle.std.specs.Prelude.{◌≡◌, ℕ, ◌^◌, ◌<◌, ◌≤◌, false, length, slice_get, IfOk, IfSome, OnOk, OnErr, IsTrue};
+ghost use Rattle.std.specs.Prelude.{◌≡◌, ℕ, ◌^◌, ◌<◌, ◌≤◌, false, length, slice_get, IfOk, IfSome, OnOk, OnErr, IsOk, IsTrue};
 ghost use Rattle.std.specs.Option.{ForSome, option_and_then, option_copied};
 ghost use Rattle.flash_machine.specs.Looking.{seen_of, left_to, renewed_to, head_of_item};
 ghost use Rattle.flash_core.specs.Calls.{found_of, look_call};
-ghost use Rattle.flash_core.specs.Choice.{numbers, items_behind};
-ghost use Rattle.flash_core.specs.Items.{HasDeadline, IsTold, item_of};
-ghost use Rattle.flash_core.specs.Places.{touched, touched_at};
+ghost use Rattle.flash_core.specs.Choice.{cache_without_items, cached_item};
+ghost use Rattle.flash_core.specs.Items.{HasDeadline, HasHead, item_of};
+ghost use Rattle.flash_core.specs.Places.{marked, marked_at};
 ghost use Rattle.flash_core.specs.Sound.{IsNewTold};
 ghost use Rattle.flash_core.specs.Store.{Becomes, Stays};
 
@@ -12,15 +12,18 @@ use crate::choice::deadline_of;
 use crate::found::Found;
 use crate::item::Item;
 use crate::items::{dead_at, live_at, place_of};
+use crate::noting::{dropped, note_behind};
 use crate::state::Core;
-use crate::store::{dropped, note_behind};
 use flash_entry::{Head, Hit, Journal, Look, Note, Seen};
 use flash_names::{Blob, Id, Key};
 use std::alloc::{AllocError, Global};
 
 impl<J: Journal> Core<J> {
     /// Looks a key up. A live item gets the renewed deadline, counts as fetched, and was accessed now. A dead
-    /// one is dropped first. Want of memory, for a copy of the value, changes nothing.
+    /// one is dropped first. Want of memory changes nothing, and doesn't come where the value isn't wanted and
+    /// the journal is ready. `id` has to be new: its
+    /// pass isn't 0, and each step of that pass in the journal has a smaller number, where the journal tells its
+    /// entries.
     pub fn look(
         &mut self,
         alloc: Global,
@@ -33,6 +36,7 @@ impl<J: Journal> Core<J> {
         ensures answer { IfOk result (λ answer. answer ≡ (look_call self.old.cache self.old.desk id key.now look).answer) }
         ensures err { OnErr result (Stays self.old self.new) }
         ensures ready { IsTrue self.old.ready → IsTrue self.new.ready }
+        ensures sure { IsTrue self.old.ready → look.value ≡ false → IsOk result }
     {
         let place = place_of(&self.items, key);
         let dead = dead_at(&self.items, place, self.moment);
@@ -40,7 +44,7 @@ impl<J: Journal> Core<J> {
         let found = found_at(alloc, self.moment, live, look)?;
         let looked = Note::Looked(id, key, look, seen_at(live));
         note_behind(&mut self.journal, dropped(key, dead), looked)?;
-        touch(&mut self.items, place, dead, look.renew, self.moment);
+        remove_or_mark(&mut self.items, place, dead, look.renew, self.moment);
         Ok(found)
     }
 }
@@ -53,8 +57,9 @@ fn found_at(
     look: Look,
 ) -> Result<Found, AllocError>
     requires moment { moment ≤ 2 ^ 62 }
-    requires kept { ForSome (option_copied live) IsTold }
-    ensures { IfOk result (λ found. found ≡ found_of (numbers moment 0) look (items_behind (option_copied live.entry))) }
+    requires kept { ForSome (option_copied live) HasHead }
+    ensures sure { look.value ≡ false → IsOk result }
+    ensures found { IfOk result (λ found. found ≡ found_of (cache_without_items moment 0) look (cached_item (option_copied live.entry))) }
 {
     let Some(item) = live else {
         return Ok(Found::Miss);
@@ -70,8 +75,8 @@ fn found_at(
 // What is told of an item without its value: the deadline after the lookup, and the rest from before it.
 fn head_of(moment: u64, item: &Item, renew: Option<i64>) -> Head
     requires moment { moment ≤ 2 ^ 62 }
-    requires kept { IsTold item.now }
-    ensures { (look : Look) → look.renew ≡ renew → result ≡ head_of_item (numbers moment 0) look (item_of item.now) }
+    requires kept { HasHead item.now }
+    ensures { (look : Look) → look.renew ≡ renew → result ≡ head_of_item (cache_without_items moment 0) look (item_of item.now) }
 {
     Head {
         flags: item.flags,
@@ -107,8 +112,9 @@ fn left_of(deadline: Option<u64>, moment: u64) -> i64
     }
 }
 
+// What the journal is told of the live item.
 fn seen_at(live: Option<&Item>) -> Seen
-    ensures { result ≡ seen_of (items_behind (option_copied live.entry)) }
+    ensures { result ≡ seen_of (cached_item (option_copied live.entry)) }
 {
     match live {
         None => Seen::Nothing,
@@ -117,12 +123,18 @@ fn seen_at(live: Option<&Item>) -> Seen
 }
 
 // Drops the item at the place where it is dead, and else marks it as found.
-fn touch(items: &mut Vec<Item>, place: Option<usize>, dead: bool, renew: Option<i64>, moment: u64)
+fn remove_or_mark(
+    items: &mut Vec<Item>,
+    place: Option<usize>,
+    dead: bool,
+    renew: Option<i64>,
+    moment: u64,
+)
     requires place { ForSome place (λ at. at < length items.old.items) }
     requires moment { moment ≤ 2 ^ 62 }
     requires deadline { ForSome (option_and_then (slice_get items.old.items) place) HasDeadline }
-    ensures items { items.new.items ≡ touched_at renew moment place dead items.old.items }
-    ensures deadline { dead ≡ false → ForSome (option_and_then (slice_get items.old.items) place) (λ item. HasDeadline (touched renew moment item)) }
+    ensures items { items.new.items ≡ marked_at renew moment place dead items.old.items }
+    ensures deadline { dead ≡ false → ForSome (option_and_then (slice_get items.old.items) place) (λ item. HasDeadline (marked renew moment item)) }
 {
     let Some(at) = place else {
         return;
@@ -138,7 +150,7 @@ fn touch(items: &mut Vec<Item>, place: Option<usize>, dead: bool, renew: Option<
 fn mark(item: &mut Item, renew: Option<i64>, moment: u64)
     requires moment { moment ≤ 2 ^ 62 }
     requires deadline { HasDeadline item.old }
-    ensures marked { item.new ≡ touched renew moment item.old }
+    ensures marked { item.new ≡ marked renew moment item.old }
     ensures deadline { HasDeadline item.new }
 {
     item.deadline = renewed_at(moment, item.deadline, renew);

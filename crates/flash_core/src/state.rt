@@ -1,6 +1,6 @@
 ghost use Rattle.std.specs.Prelude.{◌≡◌, [], IfOk, IfErr, IsTrue};
 ghost use Rattle.std.specs.Option.{ForSome};
-ghost use Rattle.flash_names.specs.Geometry.{Passes};
+ghost use Rattle.flash_names.specs.Geometry.{Passes, checked};
 ghost use Rattle.flash_machine.specs.Cache.{first_cache};
 ghost use Rattle.flash_core.specs.Open.{IsRefusedFor};
 ghost use Rattle.flash_core.specs.Sound.{IsToldRun};
@@ -11,7 +11,7 @@ use flash_names::{BadGeometry, Geometry};
 use std::alloc::Global;
 use std::marker::Model;
 
-/// A store over a journal. Each call of it is one step of a one-thread cache, noted in the journal.
+/// A store over a journal. Each call notes in the journal what it did to a one-thread cache.
 #[derive(Drop)]
 pub struct Core<J: Journal> {
     pub(crate) geometry: Geometry,
@@ -49,19 +49,23 @@ impl<J: Journal> Model for Core<J> {
 pub enum OpenWhy {
     /// The number of the first rule that the geometry breaks.
     BadGeometry(u32),
+    /// Want of memory. Opening a store takes none today, so that it doesn't come.
     NoMemory,
 }
 
 /// A store that wasn't opened, with the journal that it was to have.
 #[derive(Debug, Drop)]
 pub struct OpenError<J> {
+    /// Why it wasn't opened.
     pub why: OpenWhy,
+    /// The journal, as it was given.
     pub journal: J,
 }
 
 impl<J: Journal> Core<J> {
-    /// An empty store of this geometry, at the moment 0. A journal that tells its entries has none. The
-    /// journal comes back unchanged where the geometry breaks a rule.
+    /// An empty store of this geometry, at the moment 0. A journal that tells its entries has none. A geometry
+    /// that breaks a rule is answered with the first one that it breaks. Where no store is opened, the journal
+    /// comes back unchanged.
     pub fn open(alloc: Global, geometry: Geometry, journal: J) -> Result<Core<J>, OpenError<J>>
         requires { ForSome (J.told journal) (λ entries. entries ≡ []) }
         ensures opened { IfOk result (λ core. core ≡ record {
@@ -72,6 +76,7 @@ impl<J: Journal> Core<J> {
           desk = record { hot = [] };
         }) }
         ensures passes { IfOk result (λ _. Passes geometry) }
+        ensures broken { IfErr (checked geometry) (λ bad. IfErr result (λ error. error.why ≡ OpenWhy.BadGeometry bad.rule)) }
         ensures refused { IfErr result (λ error. IsRefusedFor geometry error.why × (error.journal ≡ journal)) }
     {
         if let Err(BadGeometry { rule }) = geometry.check() {

@@ -1,7 +1,7 @@
 ghost use Rattle.std.specs.Prelude.{◌≡◌, [], None, Some, IfOk};
 
 use super::*;
-use flash_entry::{Counted, Kept, Look, Mode, Put, Stored};
+use flash_entry::{Counted, Head, Kept, Look, Mode, Put, Stored};
 use flash_names::{Blob, Geometry, Id, Key};
 use std::alloc::{AllocError, Global};
 use std::test::Fail;
@@ -78,7 +78,7 @@ fn refuses_a_geometry(rt: HostRuntime) {
     assert_eq!(rt; why, Some(OpenWhy::BadGeometry(5)));
 }
 
-// The answer to a store of two bytes.
+// The answer to a store.
 fn store(core: &mut Core<Counted>, alloc: Global, put: &Put) -> Result<Stored, AllocError>
     requires { core.old.told ≡ None }
     ensures { core.new.told ≡ None }
@@ -104,6 +104,56 @@ fn stores_by_mode(rt: HostRuntime) -> Result<(), Fail> {
     assert_eq!(rt; store(&mut core, alloc, &large)?, Stored::TooLarge);
     let found = core.look(alloc, id(1), &key(b"a")?, LOOK)?;
     assert_eq!(rt; value_of(&found), Some(b"wxyz".as_slice()));
+    Ok(())
+}
+
+// The head that a lookup at this moment finds, if it finds one without its value.
+fn head_at(
+    core: &mut Core<Counted>,
+    alloc: Global,
+    moment: u64,
+    renew: Option<i64>,
+) -> Result<Option<Head>, AllocError>
+    requires { core.old.told ≡ None }
+    ensures { core.new.told ≡ None }
+{
+    let name = key(b"a")?;
+    core.clock(moment)?;
+    let look = Look {
+        value: false,
+        renew,
+    };
+    match core.look(alloc, id(1), &name, look)? {
+        Found::Head(head) => Ok(Some(head)),
+        _ => Ok(None),
+    }
+}
+
+// The head of the first item, of three bytes.
+fn head(left: i64, before: bool, idle: u64) -> Head {
+    Head {
+        flags: 5,
+        cas: 1,
+        size: 3,
+        left,
+        before,
+        idle,
+    }
+}
+
+#[test]
+fn looks_without_the_value(rt: HostRuntime) -> Result<(), Fail> {
+    let alloc = rt.alloc();
+    let mut core = open_counted(alloc)?;
+    let set = put(alloc, Mode::Set, 0, b"xyz")?;
+    assert_eq!(rt; store(&mut core, alloc, &set)?, Stored::Stored(1));
+    let first = head_at(&mut core, alloc, 0, None)?;
+    assert_eq!(rt; first, Some(head(-1, false, 0)));
+    let renewed = head_at(&mut core, alloc, 10, Some(60))?;
+    assert_eq!(rt; renewed, Some(head(60, true, 10)));
+    let last = head_at(&mut core, alloc, 69, None)?;
+    assert_eq!(rt; last, Some(head(1, true, 59)));
+    assert_eq!(rt; head_at(&mut core, alloc, 70, None)?, None);
     Ok(())
 }
 

@@ -23,8 +23,8 @@ found_at-requires-clause-kept g c =
     (subst (λ (l : List Item). IsPlace c.args.key.now l place) c.deref.ensures.value c.place_of-place.ensures) (search rules) i here in
     record { deadline = one.deadline; size = omega (arith, one.size, c.self.invariant.passes.item_max) }
 
-pub touch-requires-clause-deadline : goal.touch-requires-clause-deadline
-touch-requires-clause-deadline g c =
+pub remove_or_mark-requires-clause-deadline : goal.remove_or_mark-requires-clause-deadline
+remove_or_mark-requires-clause-deadline g c =
     let f = c.self.inside in
     let key = c.args.key.now in
     let place = c.place_of-place.result in
@@ -33,18 +33,18 @@ touch-requires-clause-deadline g c =
     (sym (found_at key f.items.items place (subst (λ (l : List Item). IsPlace key l place) c.deref.ensures.value c.place_of-place.ensures)) ∙ here)).deadline
 
 -- the store as the call leaves it
-view_now : (g : _) (c : goal.After-touch g) → Store
+view_now : (g : _) (c : goal.After-remove_or_mark g) → Store
 view_now g c = record {
   geometry = c.self.inside.geometry;
   told = g.J.Journal.told c.note_behind.new.journal;
   ready = g.J.Journal.ready c.note_behind.new.journal;
-  cache = cache_of_items c.touch.new.items.items c.self.inside.moment c.self.inside.last_cas;
-  desk = record { hot = keys_of c.touch.new.items.items };
+  cache = cache_of_items c.remove_or_mark.new.items.items c.self.inside.moment c.self.inside.last_cas;
+  desk = record { hot = keys_of c.remove_or_mark.new.items.items };
 }
 
 -- what the parts of the call leave
-done_at : (g : _) (c : goal.After-touch g) → IsLooked c.self.inside.geometry c.self.inside.items.items c.self.inside.moment c.self.inside.last_cas (g.J.Journal.told c.self.inside.journal) c.self.invariant c.args.id c.args.key.now c.args.look
-    c.in_ok-found.found c.touch.new.items.items (g.J.Journal.told c.note_behind.new.journal)
+done_at : (g : _) (c : goal.After-remove_or_mark g) → IsLooked c.self.inside.geometry c.self.inside.items.items c.self.inside.moment c.self.inside.last_cas (g.J.Journal.told c.self.inside.journal) c.self.invariant c.args.id c.args.key.now c.args.look
+    c.in_ok-found.found c.remove_or_mark.new.items.items (g.J.Journal.told c.note_behind.new.journal)
 done_at g c =
     let f = c.self.inside in
     let told = g.J.Journal.told f.journal in
@@ -52,14 +52,14 @@ done_at g c =
     let place = c.place_of-place.result in
     let new : IsNewTold told c.args.id = subst (λ (s : Store). IsNewTold s.told c.args.id) (sym c.self.view_is) c.requires in
     is_looked f.geometry f.items.items f.moment f.last_cas told c.self.invariant c.args.id key c.args.look
-    place c.dead_at-dead.result (option_copied c.live_at-live.result) c.in_ok-found.found c.touch.new.items.items (g.J.Journal.told c.note_behind.new.journal)
+    place c.dead_at-dead.result (option_copied c.live_at-live.result) c.in_ok-found.found c.remove_or_mark.new.items.items (g.J.Journal.told c.note_behind.new.journal)
     new
     (subst (λ (l : List Item). IsPlace key l place) c.deref.ensures.value c.place_of-place.ensures)
     (c.dead_at-dead.ensures ∙ ap (λ (l : List Item). option_map_or (λ item. is_reached item.deadline f.moment) (option_and_then (slice_get l) place) _) c.deref-2.ensures.value)
     (search rules)
-    c.in_ok-found.ensures
-    c.touch.ensures.items
-    c.touch.ensures.deadline
+    c.in_ok-found.ensures.found
+    c.remove_or_mark.ensures.items
+    c.remove_or_mark.ensures.deadline
     (search rules)
 
 pub invariant_of-self-2 : goal.invariant_of-self-2

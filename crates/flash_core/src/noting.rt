@@ -1,0 +1,36 @@
+// What a call notes: its entry, and in front of it the drop of a dead item.
+ghost use Rattle.std.specs.Prelude.{◌≡◌, ◌∷◌, [], ◌++◌, OnOk, OnErr, IsTrue, IsOk};
+ghost use Rattle.flash_names.specs.Told.{behind};
+ghost use Rattle.flash_entry.specs.Noted.{entry_of, entry_if};
+ghost use Rattle.flash_core.specs.Calls.{drop_of};
+
+use flash_entry::{DropCause, Journal, Note};
+use flash_names::Key;
+use std::alloc::AllocError;
+
+// The note of a dead item that is dropped, if it is.
+pub fn dropped(key: &Key, dead: bool) -> Option<Note<'_>>
+    ensures { entry_if result ≡ drop_of key.now dead }
+{
+    if dead {
+        Some(Note::Dropped(key, DropCause::Dead))
+    } else {
+        None
+    }
+}
+
+// Notes an entry, and another in front of it if there is one.
+pub fn note_behind<J: Journal>(
+    journal: &mut J,
+    first: Option<Note<'_>>,
+    last: Note<'_>,
+) -> Result<(), AllocError>
+    ensures noted { OnOk result (J.told journal.new ≡ behind (entry_if first.entry ++ entry_of last.entry ∷ []) (J.told journal.old)) }
+    ensures refused { OnErr result (J.told journal.new ≡ J.told journal.old) }
+    ensures ready { IsTrue (J.ready journal.old) → IsOk result × IsTrue (J.ready journal.new) }
+{
+    match first {
+        None => journal.note(last, None, None, None),
+        Some(first) => journal.note(first, Some(last), None, None),
+    }
+}
