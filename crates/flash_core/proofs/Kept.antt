@@ -1,8 +1,9 @@
 -- What stays true of a list of items when one is taken away, put in front, or put in another's place.
-use Rattle.std.proofs.Common.{◌≡◌, ℕ, ◌+◌, ◌≤◌, Bool, true, false, List, [], ◌∷◌, map, Option, None, Some, cond, if◌then◌else◌, refl, sym, ◌∙◌, ap, subst, arith}
+use Rattle.std.proofs.Common.{◌≡◌, ℕ, ◌≤◌, Bool, true, false, List, [], ◌∷◌, Option, None, Some, cond, if◌then◌else◌, refl, sym, ◌∙◌, ap, subst, arith}
+use Rattle.std.specs.List.{AllByRecursion}
 use Rattle.std.specs.Str.{bytes_eq}
 use Rattle.flash_core.specs.declared.item.Item.{Item}
-use Rattle.flash_core.specs.Items.{find_item, without, replaced, keys_of, HaveOwnKeys, IsKept, AreKept}
+use Rattle.flash_core.specs.Items.{find_item, without, replaced, keys_of, HaveOwnKeys, AreKept}
 use Rattle.flash_core.specs.Places.{IsPlace, removed}
 use Rattle.flash_core.specs.Calls.{keys_without}
 use Rattle.flash_core.proofs.Keys.{same_key, bytes_eq-refl}
@@ -48,37 +49,40 @@ own-replaced k new (i ∷ is) old key found own =
     (λ other. find-replaced k new is old key (behind_other (bytes_eq k i.key) i old (find_item k is) found other) i.key ∙ other_key k i new is (bytes_eq i.key k) other refl own.0)
     (λ other. own-replaced k new is old key (behind_other (bytes_eq k i.key) i old (find_item k is) found other) own.1)
 
--- what is kept of each item
-module _ (item_max last : ℕ) where
-  kept_step : (i : Item) (is rest : List Item) (a : Bool) → AreKept item_max last (i ∷ is) → AreKept item_max last rest → AreKept item_max last (if a then is else i ∷ rest)
-  kept_step i is rest true all kept = all.1
-  kept_step i is rest false all kept = (all.0, kept)
+-- what is true of each item
+module _ (P : Item → Type 0) where
+  all_step : (i : Item) (is rest : List Item) (a : Bool) → AllByRecursion P (i ∷ is) → AllByRecursion P rest → AllByRecursion P (if a then is else i ∷ rest)
+  all_step i is rest true all others = all.1
+  all_step i is rest false all others = (all.0, others)
 
-  pub kept-without : (k : List ℕ) (is : List Item) → AreKept item_max last is → AreKept item_max last (without k is)
-  kept-without k [] all = tt
-  kept-without k (i ∷ is) all = kept_step i is (without k is) (bytes_eq k i.key) all (kept-without k is all.1)
+  pub all-without : (k : List ℕ) (is : List Item) → AllByRecursion P is → AllByRecursion P (without k is)
+  all-without k [] all = tt
+  all-without k (i ∷ is) all = all_step i is (without k is) (bytes_eq k i.key) all (all-without k is all.1)
 
-  kept_replaced_step : (new i : Item) (is rest : List Item) (a : Bool) → IsKept item_max last new → AreKept item_max last (i ∷ is) → AreKept item_max last rest → AreKept item_max last (if a then new ∷ is else i ∷ rest)
-  kept_replaced_step new i is rest true one all kept = (one, all.1)
-  kept_replaced_step new i is rest false one all kept = (all.0, kept)
+  all_replaced_step : (new i : Item) (is rest : List Item) (a : Bool) → P new → AllByRecursion P (i ∷ is) → AllByRecursion P rest → AllByRecursion P (if a then new ∷ is else i ∷ rest)
+  all_replaced_step new i is rest true one all others = (one, all.1)
+  all_replaced_step new i is rest false one all others = (all.0, others)
 
-  pub kept-replaced : (k : List ℕ) (new : Item) (is : List Item) → IsKept item_max last new → AreKept item_max last is → AreKept item_max last (replaced k new is)
-  kept-replaced k new [] one all = tt
-  kept-replaced k new (i ∷ is) one all = kept_replaced_step new i is (replaced k new is) (bytes_eq k i.key) one all (kept-replaced k new is one all.1)
+  pub all-replaced : (k : List ℕ) (new : Item) (is : List Item) → P new → AllByRecursion P is → AllByRecursion P (replaced k new is)
+  all-replaced k new [] one all = tt
+  all-replaced k new (i ∷ is) one all = all_replaced_step new i is (replaced k new is) (bytes_eq k i.key) one all (all-replaced k new is one all.1)
 
-  -- a greater last number
-  pub kept-more : (more : ℕ) (is : List Item) → last ≤ more → AreKept item_max last is → AreKept item_max more is
-  kept-more more [] le all = tt
-  kept-more more (i ∷ is) le all = (record { some = all.0.some; number = omega (arith, all.0.number, le); deadline = all.0.deadline; size = all.0.size }, kept-more more is le all.1)
-
-  found_step : (i found : Item) (rest : Option Item) (a : Bool) → IsKept item_max last i → (rest ≡ Some found → IsKept item_max last found) → (if a then Some i else rest) ≡ Some found → IsKept item_max last found
-  found_step i found rest true one behind is = let same : i ≡ found = cc in subst (IsKept item_max last) same one
+  found_step : (i found : Item) (rest : Option Item) (a : Bool) → P i → (rest ≡ Some found → P found) → (if a then Some i else rest) ≡ Some found → P found
+  found_step i found rest true one behind is = let same : i ≡ found = cc in subst P same one
   found_step i found rest false one behind is = behind is
 
   -- an item that is found
-  pub kept_found : (k : List ℕ) (is : List Item) (found : Item) → AreKept item_max last is → find_item k is ≡ Some found → IsKept item_max last found
-  kept_found k [] found all is = absurd (cc is)
-  kept_found k (i ∷ is) found all here = found_step i found (find_item k is) (bytes_eq k i.key) all.0 (kept_found k is found all.1) here
+  pub all_found : (k : List ℕ) (is : List Item) (found : Item) → AllByRecursion P is → find_item k is ≡ Some found → P found
+  all_found k [] found all is = absurd (cc is)
+  all_found k (i ∷ is) found all here = found_step i found (find_item k is) (bytes_eq k i.key) all.0 (all_found k is found all.1) here
+
+-- a greater last number
+pub kept-more : (item_max last more : ℕ) (is : List Item) → last ≤ more → AreKept item_max last is → AreKept item_max more is
+kept-more item_max last more [] le all = tt
+kept-more item_max last more (i ∷ is) le all = (
+  record { some = all.0.some; number = omega (arith, all.0.number, le); deadline = all.0.deadline; size = all.0.size },
+  kept-more item_max last more is le all.1,
+)
 
 -- the key of an item that is found
 key_step : (k : List ℕ) (i found : Item) (rest : Option Item) (a : Bool) → bytes_eq k i.key ≡ a → (rest ≡ Some found → found.key ≡ k) → (if a then Some i else rest) ≡ Some found → found.key ≡ k

@@ -1,9 +1,10 @@
-mod Clocked
+pub mod Clocked
 mod Keys
 mod Kept
 mod Lists
 mod Looked
 pub mod News
+mod Numbers
 mod Pairs
 mod Positions
 pub mod Steps

@@ -1,25 +1,20 @@
 -- What the list of items makes of a call: the cache and the desk that the call leaves.
-use Rattle.std.proofs.Common.{◌≡◌, ℕ, ◌+◌, ◌≤◌, Bool, true, false, ◌||◌, List, [], ◌∷◌, Option, None, Some, cond, if◌then◌else◌, refl, sym, ◌∙◌, ap, subst, arith}
+use Rattle.std.proofs.Common.{◌≡◌, ℕ, ◌≤◌, Bool, true, false, ◌||◌, List, Option, None, Some, if◌then◌else◌, refl, sym, ◌∙◌, ap, arith}
 use Rattle.std.specs.Prelude.{slice_get, is_some, nat_le}
-use Rattle.std.specs.Option.{option_map, option_map_or, option_and_then, option_to_list}
+use Rattle.std.specs.Option.{option_map, option_map_or, option_and_then}
 use Rattle.std.specs.FinMap as finite
 use Rattle.std.proofs.lemmas.Bool.Decides.{nat_tests}
-use Rattle.flash_names.specs.declared.geometry.Geometry.{Geometry}
-use Rattle.flash_entry.specs.declared.ask.Put.{Put}
-use Rattle.flash_entry.specs.declared.answer.Stored.{Stored}
 use Rattle.flash_machine.specs.Item as machine
 use Rattle.flash_machine.specs.Moments.{is_reached}
 use Rattle.flash_machine.specs.Cache.{Cache}
-use Rattle.flash_machine.specs.Live.{is_dead}
-use Rattle.flash_machine.specs.Storing.{refusal, stored_item, stored_or}
 use Rattle.flash_core.specs.declared.item.Item.{Item}
-use Rattle.flash_core.specs.Items.{find_item, without, item_of, pair_of, items_of, keys_of, cache_of_items, HaveOwnKeys, IsKept, AreKept}
+use Rattle.flash_core.specs.Items.{find_item, without, item_of, items_of, keys_of, cache_of_items, HaveOwnKeys, IsKept, AreKept}
 use Rattle.flash_core.specs.Places.{IsPlace, removed, in_front}
 use Rattle.flash_core.specs.Store.{Desk, Call}
 use Rattle.flash_core.specs.Calls.{drop_of, is_dead_at, swept, sweep}
-use Rattle.flash_core.specs.Choice.{Chosen, chosen, cached_item, leaving}
-use Rattle.flash_core.proofs.Pairs.{get-items, items_of-without, items_of-in_front}
-use Rattle.flash_core.proofs.Kept.{own-without, own-in_front, none-without, kept_found, keys_of-without, without-absent, removed_is_without}
+use Rattle.flash_core.specs.Choice.{cached_item, leaving}
+use Rattle.flash_core.proofs.Pairs.{get-items, items_of-without}
+use Rattle.flash_core.proofs.Kept.{none-without, all_found, keys_of-without, removed_is_without}
 use Rattle.flash_core.proofs.Sweeps.{IsHere}
 
 -- what stands at a key's place is its first item
@@ -57,7 +52,7 @@ module _ (items : List Item) (moment last : ℕ) (key : List ℕ) (item_max : �
   dead_found : (found : Option Item) → find_item key items ≡ found → is_dead_at c (option_map item_of found) ≡ option_map_or (λ item. is_reached item.deadline moment) found false
   dead_found None here = refl
   dead_found (Some i) here =
-      ap (λ b. is_reached i.deadline moment || b) (not_flushed i.cas (kept_found item_max last key items i kept here).some) ∙ or_false (is_reached i.deadline moment)
+      ap (λ b. is_reached i.deadline moment || b) (not_flushed i.cas (all_found (IsKept item_max last) key items i kept here).some) ∙ or_false (is_reached i.deadline moment)
 
   -- whether the sweep drops the key's item
   pub dead_is : (dead : Bool) (place : Option ℕ) → IsPlace key items place → dead ≡ option_map_or (λ item. is_reached item.deadline moment) (option_and_then (slice_get items) place) false
@@ -109,4 +104,4 @@ module _ (items : List Item) (moment last : ℕ) (key : List ℕ) (item_max : �
   pub live_kept : (dead : Bool) (place : Option ℕ) (live : Option Item) → IsPlace key items place → live ≡ (if dead then None else option_and_then (slice_get items) place)
       → (i : Item) → live ≡ Some i → IsKept item_max last i
   live_kept true place live at is i here = absurd (cc (is, here))
-  live_kept false place live at is i here = kept_found item_max last key items i kept (sym (found_at key items place at) ∙ sym is ∙ here)
+  live_kept false place live at is i here = all_found (IsKept item_max last) key items i kept (sym (found_at key items place at) ∙ sym is ∙ here)

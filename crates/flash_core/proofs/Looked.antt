@@ -1,6 +1,6 @@
 -- What a lookup leaves.
-use Rattle.std.proofs.Common.{◌≡◌, ℕ, ◌<◌, ◌≤◌, ◌^◌, Bool, true, false, List, [], ◌∷◌, ◌++◌, Option, None, Some, if◌then◌else◌, refl, sym, ◌∙◌, ap, subst}
-use Rattle.std.specs.Prelude.{ℤ, slice_get, IfSome}
+use Rattle.std.proofs.Common.{◌≡◌, ℕ, Bool, true, false, List, [], ◌∷◌, ◌++◌, Option, None, Some, if◌then◌else◌, refl, sym, ◌∙◌, ap, subst}
+use Rattle.std.specs.Prelude.{slice_get}
 use Rattle.std.specs.Option.{option_map, option_map_or, option_and_then}
 use Rattle.std.specs.FinMap as finite
 use Rattle.flash_names.specs.Told.{behind}
@@ -12,17 +12,18 @@ use Rattle.flash_entry.specs.declared.entry.Entry.TheVariants as entries
 use Rattle.flash_machine.specs.Item as machine
 use Rattle.flash_machine.specs.Moments.{is_reached}
 use Rattle.flash_machine.specs.Cache.{Cache}
-use Rattle.flash_machine.specs.Looking.{seen_of, look_next, renewed_to}
+use Rattle.flash_machine.specs.Looking.{seen_of, look_next}
 use Rattle.flash_core.specs.declared.item.Item.{Item}
 use Rattle.flash_core.specs.declared.found.Found.{Found}
-use Rattle.flash_core.specs.Items.{find_item, without, replaced, item_of, items_of, cache_of_items, HaveOwnKeys, HasDeadline, IsKept, AreKept}
-use Rattle.flash_core.specs.Places.{IsPlace, IsPlaceOf, removed, marked, marked_in, marked_at}
-use Rattle.flash_core.specs.Store.{Desk, Call}
+use Rattle.flash_core.specs.Items.{find_item, without, replaced, item_of, items_of, cache_of_items, HaveOwnKeys, HaveOwnNumbers, HasDeadline, IsKept, AreKept}
+use Rattle.flash_core.specs.Places.{IsPlace, IsPlaceOf, marked, marked_in, marked_at}
+use Rattle.flash_core.specs.Store.{Call}
 use Rattle.flash_core.specs.Calls.{drop_of, found_of, look_after, look_call}
 use Rattle.flash_core.specs.Choice.{cache_without_items, cached_item}
 use Rattle.flash_core.specs.Sound.{IsSound, IsNewTold, IsToldRun}
-use Rattle.flash_core.proofs.Pairs.{get-items, items_of-replaced}
-use Rattle.flash_core.proofs.Kept.{own-without, own-replaced, kept-without, kept-replaced, kept_found, key_found, keys_of-replaced, removed_is_without}
+use Rattle.flash_core.proofs.Pairs.{items_of-replaced}
+use Rattle.flash_core.proofs.Kept.{own-without, own-replaced, all-without, all-replaced, all_found, key_found, keys_of-replaced, removed_is_without}
+use Rattle.flash_core.proofs.Numbers.{numbers-without, numbers-replaced}
 use Rattle.flash_core.proofs.Lists.{found_at, swept_items, desk_of, all_here, dead_is, live_is, swept_call, swept_call_is}
 use Rattle.flash_core.proofs.Steps.{look_goes}
 use Rattle.flash_core.proofs.Told.{told_goes_on}
@@ -54,21 +55,23 @@ module _ (items : List Item) (moment last : ℕ) (key : List ℕ) (item_max : �
     cache : cache_of_items (looked_items dead found) moment last ≡ look_next (cache_of_items (swept_items dead key items) moment last) key look (if dead then None else option_map item_of found)
     desk : desk_of (looked_items dead found) ≡ desk_of (swept_items dead key items)
     own_keys : HaveOwnKeys (looked_items dead found)
+    own_numbers : HaveOwnNumbers items → HaveOwnNumbers (looked_items dead found)
     all_kept : AreKept item_max last (looked_items dead found)
 
   marked_kept : (i : Item) → IsKept item_max last i → HasDeadline (change i) → IsKept item_max last (change i)
   marked_kept i one deadline = record { some = one.some; number = one.number; deadline = deadline; size = one.size }
 
   left : (dead : Bool) (found : Option Item) → find_item key items ≡ found → (dead ≡ false → (i : Item) → find_item key items ≡ Some i → HasDeadline (change i)) → Left dead found
-  left true found is below = record { cache = refl; desk = refl; own_keys = own-without key items own; all_kept = kept-without item_max last key items kept }
-  left false None is below = record { cache = refl; desk = refl; own_keys = own; all_kept = kept }
+  left true found is below = record { cache = refl; desk = refl; own_keys = own-without key items own; own_numbers = numbers-without key items; all_kept = all-without (IsKept item_max last) key items kept }
+  left false None is below = record { cache = refl; desk = refl; own_keys = own; own_numbers = λ numbers. numbers; all_kept = kept }
   left false (Some i) is below =
       let named = key_found key items i is in
       record {
         cache = λ j. record { items = items_of-replaced key (change i) items i named is j; now = moment; last_cas = last; flush_mark = 0; pending_flush = None };
         desk = λ j. record { hot = keys_of-replaced key (change i) items named j };
         own_keys = own-replaced key (change i) items i named is own;
-        all_kept = kept-replaced item_max last key (change i) items (marked_kept i (kept_found item_max last key items i kept is) (below refl i is)) kept;
+        own_numbers = numbers-replaced key (change i) items i refl is;
+        all_kept = all-replaced (IsKept item_max last) key (change i) items (marked_kept i (all_found (IsKept item_max last) key items i kept is) (below refl i is)) kept;
       }
 
 module _ (g : Geometry) (items : List Item) (moment last : ℕ) (told : Option (List Entry)) (was : IsSound g items moment last told) (id : Id) (key : List ℕ) (look : Look) where
@@ -134,6 +137,7 @@ module _ (g : Geometry) (items : List Item) (moment last : ℕ) (told : Option (
         sound = record {
           passes = was.passes;
           own_keys = subst HaveOwnKeys (sym items_are) parts.own_keys;
+          own_numbers = subst HaveOwnNumbers (sym items_are) (parts.own_numbers was.own_numbers);
           kept = subst (AreKept g.item_max last) (sym items_are) parts.all_kept;
           within = was.within;
           run = subst (λ (d : Cache). IsToldRun g d told2) (sym all.cache) (subst (IsToldRun g call.cache) (sym noted_is) run);

@@ -1,18 +1,16 @@
 -- The finite map of a list of items.
-use Rattle.std.proofs.Common.{◌≡◌, ℕ, Bool, true, false, List, [], ◌∷◌, map, Option, None, Some, cond, if◌then◌else◌, refl, sym, ◌∙◌, ap, subst}
+use Rattle.std.proofs.Common.{◌≡◌, ℕ, Bool, true, false, List, [], ◌∷◌, map, Option, None, Some, cond, if◌then◌else◌, refl, sym, ◌∙◌, ap}
 use Rattle.std.specs.Option.{option_map}
-use Rattle.std.specs.Ordering.{nat_cmp, eq_by_cmp}
+use Rattle.std.specs.Ordering.{nat_cmp}
 use Rattle.std.specs.Cmp.Lexicographic.{slice_cmp, nat_list_cmp_total}
 use Rattle.std.specs.FinMap as finite
 use Rattle.std.specs.FinMap.{nat_cmp-IsAntisymmetric, slice_cmp-IsAntisymmetric}
 use Rattle.std.specs.Str.{bytes_eq}
-use Rattle.std.proofs.lemmas.Bool.{cases_eq}
 use Rattle.flash_machine.specs.Item as machine
 use Rattle.flash_machine.specs.Cache.{Items}
 use Rattle.flash_core.specs.declared.item.Item.{Item}
-use Rattle.flash_core.specs.Items.{find_item, without, replaced, item_of, pair_of, items_of, keys_of, HaveOwnKeys}
-use Rattle.flash_core.specs.Calls.{keys_without}
-use Rattle.flash_core.proofs.Keys.{same_key, bytes_eq-refl, tied}
+use Rattle.flash_core.specs.Items.{find_item, without, replaced, item_of, pair_of, items_of, HaveOwnKeys}
+use Rattle.flash_core.proofs.Keys.{same_key, tied}
 
 -- what the map has under a key is the first item with it
 find_by : (q : List ℕ) (i : Item) (same : Bool) (rest : Option machine.Item) (found : Option Item) → rest ≡ option_map item_of found
@@ -91,10 +89,6 @@ find-without k (i ∷ is) own q = without_step q k i is (bytes_eq k i.key) (byte
 mapped : (b : Bool) (new : Option Item) (old : Option Item) → option_map item_of (cond b new old) ≡ cond b (option_map item_of new) (option_map item_of old)
 mapped true new old = refl
 mapped false new old = refl
-
-cond_same : (b : Bool) (x : Option machine.Item) (y z : Option machine.Item) → (b ≡ false → y ≡ z) → cond b x y ≡ cond b x z
-cond_same true x y z is = refl
-cond_same false x y z is = is refl
 
 -- the map without the key's item
 pub items_of-without : (k : List ℕ) (is : List Item) → HaveOwnKeys is → items_of (without k is) ≡ finite.remove (items_of is) k

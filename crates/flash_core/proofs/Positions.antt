@@ -1,11 +1,11 @@
 -- The position of the first item with a key is its place.
-use Rattle.std.proofs.Common.{◌≡◌, ℕ, zero, suc, ◌+◌, ◌<◌, Bool, true, false, List, [], ◌∷◌, length, Option, None, Some, cond, refl, sym, ◌∙◌, ap, subst, arith}
-use Rattle.std.specs.Prelude.{position, slice_get, slice_set, remove}
+use Rattle.std.proofs.Common.{◌≡◌, ℕ, suc, ◌+◌, Bool, true, false, List, [], ◌∷◌, Option, None, Some, cond, refl, sym, ap, subst, arith}
+use Rattle.std.specs.Prelude.{position}
 use Rattle.std.specs.List.{position_from}
 use Rattle.std.specs.Str.{bytes_eq}
 use Rattle.std.proofs.lemmas.Iterator.Adapters.{position_from-zero}
 use Rattle.flash_core.specs.declared.item.Item.{Item}
-use Rattle.flash_core.specs.Items.{find_item, without, replaced}
+use Rattle.flash_core.specs.Items.{find_item}
 use Rattle.flash_core.specs.Places.{IsPlaceOf, IsPlace}
 
 -- the place, where the first one is counted from n

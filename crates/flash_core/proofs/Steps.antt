@@ -1,6 +1,5 @@
 -- A call behind its sweep is legal.
-use Rattle.std.proofs.Common.{◌≡◌, List, [], ◌∷◌, ◌++◌, Option, refl, sym, ◌∙◌, ap, subst}
-use Rattle.std.specs.FinMap as finite
+use Rattle.std.proofs.Common.{◌≡◌, List, [], ◌∷◌, ◌++◌, Option, sym, ◌∙◌, ap, subst}
 use Rattle.flash_names.specs.declared.place.Id.{Id}
 use Rattle.flash_names.specs.declared.geometry.Geometry.{Geometry}
 use Rattle.flash_entry.specs.declared.ask.Put.{Put}
@@ -8,10 +7,9 @@ use Rattle.flash_entry.specs.declared.ask.Look.{Look}
 use Rattle.flash_entry.specs.declared.entry.Entry.{Entry}
 use Rattle.flash_machine.specs.Item.{Item}
 use Rattle.flash_machine.specs.Cache.{Cache}
-use Rattle.flash_machine.specs.Live.{live_item}
 use Rattle.flash_machine.specs.Storing.{store_step}
 use Rattle.flash_machine.specs.Looking.{seen_of, look_next}
-use Rattle.flash_machine.specs.Steps.{next, cache_from}
+use Rattle.flash_machine.specs.Steps.{next}
 use Rattle.flash_machine.specs.Legal.{Meets, LegalFrom, IsNew}
 use Rattle.flash_machine.proofs.Runs.{LegalFrom-append, cache_from-append}
 use Rattle.flash_core.specs.Store.{Desk}

@@ -1,12 +1,11 @@
 -- What a call of `store` leaves, from what its parts ensure.
-use Rattle.std.proofs.Common.{◌≡◌, ℕ, ◌≤◌, Bool, true, false, ◌||◌, List, [], ◌∷◌, ◌++◌, Option, None, Some, if◌then◌else◌, refl, sym, ◌∙◌, ap, subst}
+use Rattle.std.proofs.Common.{◌≡◌, ℕ, ◌<◌, ◌≤◌, Bool, false, ◌||◌, List, [], ◌∷◌, ◌++◌, Option, None, Some, if◌then◌else◌, sym, ◌∙◌, ap, subst}
 use Rattle.std.specs.Prelude.{slice_get, is_some}
 use Rattle.std.specs.Option.{option_map_or, option_and_then, option_to_list}
 use Rattle.flash_names.specs.Told.{behind}
 use Rattle.flash_names.specs.declared.place.Id.{Id}
 use Rattle.flash_names.specs.declared.geometry.Geometry.{Geometry}
 use Rattle.flash_entry.specs.declared.ask.Put.{Put}
-use Rattle.flash_entry.specs.declared.answer.Stored.{Stored}
 use Rattle.flash_entry.specs.declared.entry.Done.TheVariants as deeds
 use Rattle.flash_entry.specs.declared.entry.Entry.{Entry}
 use Rattle.flash_entry.specs.declared.entry.Entry.TheVariants as entries
@@ -14,13 +13,13 @@ use Rattle.flash_machine.specs.Moments.{is_reached}
 use Rattle.flash_machine.specs.Cache.{Cache}
 use Rattle.flash_core.specs.declared.item.Item.{Item}
 use Rattle.flash_core.specs.declared.choice.Choice.{Choice}
-use Rattle.flash_core.specs.Items.{cache_of_items, HaveOwnKeys, AreKept}
+use Rattle.flash_core.specs.Items.{cache_of_items, HaveOwnKeys, HaveOwnNumbers, AreKept}
 use Rattle.flash_core.specs.Places.{IsPlace, removed, in_front}
 use Rattle.flash_core.specs.Calls.{drop_of, store_call}
 use Rattle.flash_core.specs.Choice.{choice_of, chosen_by, cached_item, leaving}
 use Rattle.flash_core.specs.Sound.{IsSound, IsNewTold, IsToldRun}
 use Rattle.flash_core.proofs.Lists.{desk_of, all_here, after_items}
-use Rattle.flash_core.proofs.Stored.{stored_items, own_after, kept_after, StoresAs, stores_as}
+use Rattle.flash_core.proofs.Stored.{stored_items, own_after, numbers_after, kept_after, stores_as}
 use Rattle.flash_core.proofs.Steps.{store_goes}
 use Rattle.flash_core.proofs.Told.{told_goes_on}
 
@@ -43,11 +42,12 @@ module _ (g : Geometry) (items : List Item) (moment last : ℕ) (told : Option (
       → live ≡ (if dead then None else option_and_then (slice_get items) place)
       → chosen_by choice ≡ choice_of g moment last put (cached_item live)
       → last ≤ choice.last_cas
+      → ((i : Item) → choice.item ≡ Some i → last < i.cas)
       → AreKept g.item_max choice.last_cas (option_to_list choice.item)
       → items2 ≡ in_front choice.item (removed (leaving place (dead || is_some choice.item)) items)
       → told2 ≡ behind (drop_of put.key dead ++ entries.Did id (deeds.Store put choice.answer) ∷ []) told
       → IsStored choice items2 told2
-  is_stored place dead live choice items2 told2 new at dead_at live_at chose rises numbered put_at noted =
+  is_stored place dead live choice items2 told2 new at dead_at live_at chose rises above numbered put_at noted =
       let own = was.own_keys in
       let stores = stores_as g items moment last put g.item_max own was.kept id dead place live choice.answer choice.item choice.last_cas at dead_at live_at chose in
       let call = store_call g before (desk_of items) id put in
@@ -63,6 +63,7 @@ module _ (g : Geometry) (items : List Item) (moment last : ℕ) (told : Option (
         sound = record {
           passes = was.passes;
           own_keys = subst HaveOwnKeys (sym items_are) (own_after items moment last put.key g.item_max own was.kept dead choice.item stores.named);
+          own_numbers = subst HaveOwnNumbers (sym items_are) (numbers_after items moment last put.key g.item_max own was.kept dead choice.item above was.own_numbers);
           kept = subst (AreKept g.item_max choice.last_cas) (sym items_are) (kept_after items moment last put.key g.item_max own was.kept dead choice.item choice.last_cas rises numbered);
           within = was.within;
           run = subst (λ (d : Cache). IsToldRun g d told2) (sym cache_is) (subst (IsToldRun g call.cache) (sym noted_is) run);

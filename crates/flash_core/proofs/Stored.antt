@@ -1,5 +1,5 @@
 -- What a store leaves, by its choice.
-use Rattle.std.proofs.Common.{◌≡◌, ℕ, ◌+◌, ◌≤◌, Bool, true, false, ◌||◌, List, [], ◌∷◌, ◌++◌, Option, None, Some, cond, if◌then◌else◌, refl, sym, ◌∙◌, ap, subst, arith}
+use Rattle.std.proofs.Common.{◌≡◌, ℕ, ◌+◌, ◌<◌, ◌≤◌, Bool, true, false, ◌||◌, List, [], ◌∷◌, ◌++◌, Option, None, Some, if◌then◌else◌, refl, sym, ◌∙◌, ap, subst}
 use Rattle.std.specs.Prelude.{slice_get, is_some, unwrap_or}
 use Rattle.std.specs.Option.{option_map, option_map_or, option_and_then, option_to_list}
 use Rattle.std.specs.FinMap as finite
@@ -8,21 +8,21 @@ use Rattle.flash_names.specs.declared.geometry.Geometry.{Geometry}
 use Rattle.flash_entry.specs.declared.ask.Put.{Put}
 use Rattle.flash_entry.specs.declared.answer.Stored.{Stored}
 use Rattle.flash_entry.specs.declared.entry.Done.TheVariants as deeds
-use Rattle.flash_entry.specs.declared.entry.Entry.{Entry}
 use Rattle.flash_entry.specs.declared.entry.Entry.TheVariants as entries
 use Rattle.flash_machine.specs.Item as machine
 use Rattle.flash_machine.specs.Moments.{is_reached}
 use Rattle.flash_machine.specs.Cache.{Cache}
 use Rattle.flash_machine.specs.Storing.{refusal, stored_item, stored_or, store_step}
 use Rattle.flash_core.specs.declared.item.Item.{Item}
-use Rattle.flash_core.specs.Items.{without, item_of, pair_of, items_of, keys_of, cache_of_items, HaveOwnKeys, AreKept}
-use Rattle.flash_core.specs.Places.{IsPlace, removed, in_front}
-use Rattle.flash_core.specs.Store.{Desk, Call}
+use Rattle.flash_core.specs.Items.{without, item_of, pair_of, items_of, keys_of, cache_of_items, HaveOwnKeys, HaveOwnNumbers, IsKept, AreKept}
+use Rattle.flash_core.specs.Places.{IsPlace, in_front}
+use Rattle.flash_core.specs.Store.{Call}
 use Rattle.flash_core.specs.Calls.{keys_without, drop_of, store_after, store_call, stored_desk}
-use Rattle.flash_core.specs.Choice.{Chosen, chosen, choice_of, cache_without_items, cached_item, leaving}
+use Rattle.flash_core.specs.Choice.{Chosen, chosen, choice_of, cache_without_items, cached_item}
 use Rattle.flash_core.proofs.Pairs.{items_of-in_front}
-use Rattle.flash_core.proofs.Kept.{own-without, own-in_front, none-without, kept-without, kept-more, keys_of-without, without-absent}
-use Rattle.flash_core.proofs.Lists.{swept_items, desk_of, dead_is, swept_call, swept_call_is, live_is, after_items}
+use Rattle.flash_core.proofs.Kept.{own-without, own-in_front, none-without, all-without, kept-more, keys_of-without, without-absent}
+use Rattle.flash_core.proofs.Numbers.{numbers-without, numbers-in_front}
+use Rattle.flash_core.proofs.Lists.{swept_items, desk_of, dead_is, swept_call, swept_call_is, live_is}
 
 abbrev Chose : Option Stored → ℕ → List ℕ → machine.Item → Stored → Option Item → ℕ → Type 0
 Chose r last key new answer item last2 = ◌≡◌ {A = Chosen} (answer, (option_map pair_of item, last2)) (chosen r last (key, new))
@@ -40,10 +40,6 @@ module _ (items : List Item) (moment last : ℕ) (key : List ℕ) (item_max : �
   keep_refused true = refl
   keep_refused false = refl
 
-  no_item : (item : Option Item) → option_map pair_of item ≡ None → item ≡ None
-  no_item None is = refl
-  no_item (Some i) is = absurd (cc is)
-
   pub own_after : (dead : Bool) (item : Option Item) → ((i : Item) → item ≡ Some i → i.key ≡ key) → HaveOwnKeys (stored_items dead item key items)
   own_after true None named = own-without key items own
   own_after false None named = own
@@ -51,10 +47,16 @@ module _ (items : List Item) (moment last : ℕ) (key : List ℕ) (item_max : �
   own_after false (Some i) named = own-in_front key i items (named i refl) own
 
   pub kept_after : (dead : Bool) (item : Option Item) (last2 : ℕ) → last ≤ last2 → AreKept item_max last2 (option_to_list item) → AreKept item_max last2 (stored_items dead item key items)
-  kept_after true None last2 rises new = kept-more item_max last last2 (without key items) rises (kept-without item_max last key items kept)
+  kept_after true None last2 rises new = kept-more item_max last last2 (without key items) rises (all-without (IsKept item_max last) key items kept)
   kept_after false None last2 rises new = kept-more item_max last last2 items rises kept
-  kept_after true (Some i) last2 rises new = (new.0, kept-more item_max last last2 (without key items) rises (kept-without item_max last key items kept))
-  kept_after false (Some i) last2 rises new = (new.0, kept-more item_max last last2 (without key items) rises (kept-without item_max last key items kept))
+  kept_after true (Some i) last2 rises new = (new.0, kept-more item_max last last2 (without key items) rises (all-without (IsKept item_max last) key items kept))
+  kept_after false (Some i) last2 rises new = (new.0, kept-more item_max last last2 (without key items) rises (all-without (IsKept item_max last) key items kept))
+
+  pub numbers_after : (dead : Bool) (item : Option Item) → ((i : Item) → item ≡ Some i → last < i.cas) → HaveOwnNumbers items → HaveOwnNumbers (stored_items dead item key items)
+  numbers_after true None above numbers = numbers-without key items numbers
+  numbers_after false None above numbers = numbers
+  numbers_after true (Some i) above numbers = numbers-in_front item_max last i (without key items) (above i refl) (all-without (IsKept item_max last) key items kept) (numbers-without key items numbers)
+  numbers_after false (Some i) above numbers = numbers-in_front item_max last i (without key items) (above i refl) (all-without (IsKept item_max last) key items kept) (numbers-without key items numbers)
 
   -- an item in front of the others makes the map with it, whether the key's was swept before or not
   inserted : (dead : Bool) (i : Item) → i.key ≡ key → items_of (i ∷ without key items) ≡ finite.insert (items_of (swept_items dead key items)) key (item_of i)

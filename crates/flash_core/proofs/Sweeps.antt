@@ -1,7 +1,6 @@
 -- A sweep is legal, and behind it the key's live item is what the cache has under the key.
 use Rattle.std.proofs.Common.{◌≡◌, ℕ, Bool, true, false, ◌&&◌, not, List, [], ◌∷◌, ◌++◌, Option, None, Some, cond, if◌then◌else◌, refl, sym, ◌∙◌, ap, subst}
 use Rattle.std.specs.FinMap as finite
-use Rattle.std.specs.Str.{bytes_eq}
 use Rattle.std.proofs.lemmas.List.{append-nil}
 use Rattle.flash_names.specs.declared.place.Id.{Id}
 use Rattle.flash_names.specs.declared.geometry.Geometry.{Geometry}
@@ -14,14 +13,11 @@ use Rattle.flash_machine.specs.Live.{is_dead, is_live, has_ended, where_passes, 
 use Rattle.flash_machine.specs.Legal.{IsNew}
 use Rattle.flash_core.specs.Store.{Desk, Call}
 use Rattle.flash_core.specs.Calls.{is_dead_at, swept, sweep}
+pub use Rattle.flash_core.specs.Laws.{IsHere}
 use Rattle.flash_core.proofs.Keys.{bytes_eq-refl}
 use Rattle.flash_core.proofs.Pairs.{get-removed}
 use Rattle.flash_core.proofs.Told.{Goes}
 use Rattle.flash_core.proofs.News.{new_behind}
-
--- the item under the key, if there is one, is in memory
-abbrev pub IsHere : Cache → List ℕ → Type 0
-IsHere c key = (item : Item) → finite.get c.items key ≡ Some item → item.label ≡ None
 
 gone : (c : Cache) (key : List ℕ) → finite.get (finite.remove c.items key) key ≡ None
 gone c key = get-removed c.items key key ∙ ap (λ b. cond b None (finite.get c.items key)) (bytes_eq-refl key)

@@ -1,15 +1,13 @@
 -- A store's journal goes on as a run.
-use Rattle.std.proofs.Common.{◌≡◌, ℕ, ◌<◌, List, [], ◌∷◌, ◌++◌, Option, None, Some, refl, sym, ◌∙◌, ap, subst}
-use Rattle.std.specs.List.{AllByRecursion}
+use Rattle.std.proofs.Common.{◌≡◌, List, ◌++◌, Option, None, Some, refl, sym, ◌∙◌, ap, subst}
 use Rattle.flash_names.specs.Told.{behind}
-use Rattle.flash_names.specs.declared.place.Id.{Id}
 use Rattle.flash_names.specs.declared.geometry.Geometry.{Geometry}
 use Rattle.flash_entry.specs.declared.entry.Entry.{Entry}
 use Rattle.flash_machine.specs.Cache.{Cache}
-use Rattle.flash_machine.specs.Steps.{cache_from, cache_of}
-use Rattle.flash_machine.specs.Legal.{LegalFrom, IsNew, IsEarlier, step_id}
+use Rattle.flash_machine.specs.Steps.{cache_from}
+use Rattle.flash_machine.specs.Legal.{LegalFrom}
 use Rattle.flash_machine.proofs.Runs.{Legal-append, cache_of-append}
-use Rattle.flash_core.specs.Sound.{IsRun, IsToldRun, IsNewTold}
+use Rattle.flash_core.specs.Sound.{IsRun, IsToldRun}
 
 -- the entries of a call meet their rules, and make of the cache the one that the call leaves
 pub record Goes (g : Geometry) (h : List Entry) (c : Cache) (es : List Entry) (next : Cache) : Type 0 where

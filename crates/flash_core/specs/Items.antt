@@ -1,5 +1,6 @@
 -- The items of a store as it keeps them: a list, the one stored last in front.
-use Rattle.std.specs.Prelude.{◌≡◌, ℕ, ◌^◌, ◌<◌, ◌≤◌, List, [], ◌∷◌, length, map, Option, None, Some, IfSome, if◌then◌else◌}
+use Rattle.std.specs.Prelude.{◌≡◌, ◌≢◌, ℕ, ◌^◌, ◌<◌, ◌≤◌, List, [], ◌∷◌, length, map, Option, None, Some, IfSome, if◌then◌else◌}
+use Rattle.std.specs.List.{AllByRecursion}
 use Rattle.std.specs.Str.{bytes_eq}
 use Rattle.std.specs.FinMap as finite
 use Rattle.flash_machine.specs.Item as machine
@@ -26,6 +27,11 @@ abbrev pub HaveOwnKeys : List Item → Type 0
 HaveOwnKeys [] = Unit {0}
 HaveOwnKeys (i ∷ is) = (find_item i.key is ≡ None) × HaveOwnKeys is
 
+-- no two items have one CAS number
+abbrev pub HaveOwnNumbers : List Item → Type 0
+HaveOwnNumbers [] = Unit {0}
+HaveOwnNumbers (i ∷ is) = AllByRecursion (λ j. j.cas ≢ i.cas) is × HaveOwnNumbers is
+
 -- a deadline, where there is one, is below 2^63
 abbrev pub HasDeadline : Item → Type 0
 HasDeadline i = IfSome i.deadline (λ moment. moment < 2 ^ 63)
@@ -39,8 +45,7 @@ pub record IsKept (item_max last : ℕ) (i : Item) : Type 0 where
 
 -- each item is kept so
 abbrev pub AreKept : ℕ → ℕ → List Item → Type 0
-AreKept item_max last [] = Unit {0}
-AreKept item_max last (i ∷ is) = IsKept item_max last i × AreKept item_max last is
+AreKept item_max last items = AllByRecursion (IsKept item_max last) items
 
 -- an item as the cache has it: all of it is in memory
 abbrev pub item_of : Item → machine.Item

@@ -1,6 +1,7 @@
 pub mod Calls
 pub mod Choice
 pub mod Items
+pub mod Laws
 pub mod Open
 pub mod Places
 pub mod Sound

@@ -1,5 +1,5 @@
 -- Where an item stands in the list of a store.
-use Rattle.std.specs.Prelude.{◌≡◌, ℕ, ℤ, ◌<◌, Bool, true, false, List, [], ◌∷◌, length, remove, slice_get, slice_set, Option, None, Some}
+use Rattle.std.specs.Prelude.{◌≡◌, ℕ, ℤ, ◌<◌, Bool, true, false, List, ◌∷◌, length, remove, slice_get, slice_set, Option, None, Some}
 use Rattle.flash_machine.specs.Looking.{renewed_to}
 use Rattle.flash_core.specs.declared.item.Item.{Item}
 use Rattle.flash_core.specs.Items.{find_item, without, replaced}

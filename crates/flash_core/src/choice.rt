@@ -38,6 +38,7 @@ pub fn choose(
     requires deadline { ForSome (option_copied live) HasDeadline }
     ensures chosen { IfOk result (λ choice. chosen_by choice ≡ choice_of geometry.now now last_cas put.now (cached_item (option_copied live.entry))) }
     ensures rises { IfOk result (λ choice. last_cas ≤ choice.last_cas) }
+    ensures above { IfOk result (λ choice. ForSome choice.item (λ item. last_cas < item.cas)) }
     ensures kept { IfOk result (λ choice. AreKept geometry.now.item_max choice.last_cas (option_to_list choice.item)) }
 {
     match refusal_of(geometry, last_cas, put, live) {

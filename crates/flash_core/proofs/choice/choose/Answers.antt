@@ -1,9 +1,9 @@
-use Rattle.std.proofs.Common.{◌≡◌, ℕ, ◌+◌, List, Option, Some, None, refl, sym, ◌∙◌, ap, rules}
+use Rattle.std.proofs.Common.{◌≡◌, ℕ, ◌+◌, List, Option, Some, None, refl, sym, ◌∙◌, ap}
 use Rattle.std.specs.Option.{option_copied}
 use Rattle.flash_entry.specs.declared.answer.Stored.{Stored}
 use Rattle.flash_entry.specs.declared.answer.Stored.TheVariants as answers
 use Rattle.flash_machine.specs.Item as machine
-use Rattle.flash_machine.specs.Storing.{stored_item, refusal}
+use Rattle.flash_machine.specs.Storing.{stored_item}
 use Rattle.flash_core.specs.Choice.{chosen, chosen_by, cache_without_items, cached_item}
 use Rattle.flash_core.proofs.choice.choose.Goals as goal
 

@@ -1,4 +1,4 @@
-use Rattle.std.proofs.Common.{◌≡◌, ◌∷◌, [], ◌++◌, ◌≤◌, List, Option, sym, ◌∙◌, ap, subst, arith, rules}
+use Rattle.std.proofs.Common.{◌≡◌, List, sym, ◌∙◌, ap, subst, arith, rules}
 use Rattle.std.specs.Prelude.{slice_get}
 use Rattle.std.specs.Option.{option_map_or, option_and_then, option_copied}
 use Rattle.flash_names.specs.Told.{behind}
@@ -6,11 +6,11 @@ use Rattle.flash_machine.specs.Moments.{is_reached}
 use Rattle.flash_core.specs.declared.item.Item.{Item}
 use Rattle.flash_core.specs.Places.{IsPlace}
 use Rattle.flash_core.specs.Store.{Store}
-use Rattle.flash_core.specs.Items.{HasDeadline, cache_of_items, keys_of}
+use Rattle.flash_core.specs.Items.{IsKept, cache_of_items, keys_of}
 use Rattle.flash_core.specs.Calls.{look_call}
 use Rattle.flash_core.specs.Sound.{IsNewTold}
 use Rattle.flash_core.proofs.Lists.{found_at, live_kept}
-use Rattle.flash_core.proofs.Kept.{kept_found}
+use Rattle.flash_core.proofs.Kept.{all_found}
 use Rattle.flash_core.proofs.Looked.{IsLooked, is_looked}
 use Rattle.flash_core.proofs.state.Core.look.Goals as goal
 
@@ -29,7 +29,7 @@ remove_or_mark-requires-clause-deadline g c =
     let key = c.args.key.now in
     let place = c.place_of-place.result in
     λ i here.
-    (kept_found f.geometry.item_max f.last_cas key f.items.items i c.self.invariant.kept
+    (all_found (IsKept f.geometry.item_max f.last_cas) key f.items.items i c.self.invariant.kept
     (sym (found_at key f.items.items place (subst (λ (l : List Item). IsPlace key l place) c.deref.ensures.value c.place_of-place.ensures)) ∙ here)).deadline
 
 -- the store as the call leaves it

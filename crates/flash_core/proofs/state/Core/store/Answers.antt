@@ -1,11 +1,10 @@
-use Rattle.std.proofs.Common.{◌≡◌, ◌∷◌, [], ◌++◌, List, Option, sym, ◌∙◌, ap, subst, rules}
+use Rattle.std.proofs.Common.{◌≡◌, List, sym, ◌∙◌, ap, subst, rules}
 use Rattle.std.specs.Prelude.{slice_get}
 use Rattle.std.specs.Option.{option_map_or, option_and_then, option_copied}
 use Rattle.flash_names.specs.Told.{behind}
-use Rattle.flash_entry.specs.declared.entry.Entry.{Entry}
 use Rattle.flash_machine.specs.Moments.{is_reached}
 use Rattle.flash_core.specs.declared.item.Item.{Item}
-use Rattle.flash_core.specs.Places.{IsPlace, in_front}
+use Rattle.flash_core.specs.Places.{IsPlace}
 use Rattle.flash_core.specs.Store.{Store}
 use Rattle.flash_core.specs.Items.{cache_of_items, keys_of}
 use Rattle.flash_core.specs.Calls.{store_call}
@@ -47,7 +46,7 @@ done_at g c =
     (c.dead_at-dead.ensures ∙ ap (λ (l : List Item). option_map_or (λ item. is_reached item.deadline f.moment) (option_and_then (slice_get l) place) _) c.deref-2.ensures.value)
     (search rules)
     (c.in_ok-choice.ensures.chosen)
-    c.in_ok-choice.ensures.rises c.in_ok-choice.ensures.kept
+    c.in_ok-choice.ensures.rises c.in_ok-choice.ensures.above c.in_ok-choice.ensures.kept
     (search rules)
     (search rules)
 
