@@ -1,9 +1,11 @@
 -- What a step keeps of the moment and of the CAS numbers.
-use Rattle.std.proofs.Common.{◌≡◌, ℕ, ◌+◌, ◌≤◌, Bool, true, false, List, [], ◌∷◌, ◌++◌, Option, None, Some, cond, refl, sym, ◌∙◌, subst, arith}
+use Rattle.std.proofs.Common.{◌≡◌, ℕ, ◌+◌, ◌<◌, ◌≤◌, Bool, true, false, List, [], ◌∷◌, ◌++◌, Option, None, Some, cond, refl, sym, ◌∙◌, ap, subst, arith}
 use Rattle.std.specs.Ordering.{nat_cmp, eq_by_cmp}
 use Rattle.std.specs.Cmp.Lexicographic.{slice_cmp, nat_list_cmp_total}
 use Rattle.std.specs.FinMap as map
 use Rattle.std.proofs.lemmas.Bool.{cond_both}
+use Rattle.std.proofs.lemmas.Slice.Eq.{bytes_eq-Decides}
+use Rattle.std.proofs.lemmas.Map.Text.{is_eq-slice_cmp}
 use Rattle.flash_names.specs.declared.geometry.Geometry.{Geometry}
 use Rattle.flash_entry.specs.declared.ask.Mode.{Mode}
 use Rattle.flash_entry.specs.declared.ask.Mode.TheVariants.{Append, Prepend}
@@ -22,7 +24,7 @@ use Rattle.flash_machine.specs.Storing.{stored_item, stored_or, refusal}
 use Rattle.flash_machine.specs.Looking.{fetched_item, look_next}
 use Rattle.flash_machine.specs.Steps.{clock_next, done_next, next, cache_from, cache_of}
 use Rattle.flash_machine.specs.Legal.{Meets, LegalFrom}
-use Rattle.flash_machine.specs.Rising.{AreNumbered}
+use Rattle.flash_machine.specs.Rising.{AreNumbered, AreApart}
 
 -- an item that passes a test is the one that was there
 passed_step : (b : Bool) (old item : Item) → cond b (Some old) None ≡ Some item → Some old ≡ Some item
@@ -67,10 +69,11 @@ moment_from g h c [] legal = omega arith
 moment_from g h c (e ∷ es) legal =
     omega (arith, moment_rises g h c e legal.0, moment_from g (h ++ e ∷ []) (next g h c e) es legal.1)
 
--- each item and the flush mark have numbers up to the last one
+-- each item and the flush mark have numbers up to the last one, and no two items have one
 pub record HasNumbers (c : Cache) : Type 0 where
   pub mark : c.flush_mark ≤ c.last_cas
   pub items : AreNumbered c.last_cas c.items
+  pub own : AreApart c.items
 
 -- what a step makes of the last number and of those of the items
 record GoesUp (c after : Cache) : Type 0 where
@@ -81,14 +84,14 @@ stays : (c : Cache) → GoesUp c c
 stays c = record { rises = omega arith; numbers = λ was. was }
 
 -- the items with one put in
-inserted_step : (last : ℕ) (new old item : Item) (b : Bool) (found : Option Item) → (1 ≤ new.cas) × (new.cas ≤ last) → (found ≡ Some item → (1 ≤ item.cas) × (item.cas ≤ last))
+inserted_step : (last : ℕ) (new item : Item) (b : Bool) (found : Option Item) → (1 ≤ new.cas) × (new.cas ≤ last) → (found ≡ Some item → (1 ≤ item.cas) × (item.cas ≤ last))
     → cond b (Some new) found ≡ Some item → (1 ≤ item.cas) × (item.cas ≤ last)
-inserted_step last new old item true found numbered rest is = let same : new ≡ item = cc in subst (λ (i : Item). (1 ≤ i.cas) × (i.cas ≤ last)) same numbered
-inserted_step last new old item false found numbered rest is = rest is
+inserted_step last new item true found numbered rest is = let same : new ≡ item = cc in subst (λ (i : Item). (1 ≤ i.cas) × (i.cas ≤ last)) same numbered
+inserted_step last new item false found numbered rest is = rest is
 
 numbered_insert : (last : ℕ) (items : Items) (key : List ℕ) (new : Item) → (1 ≤ new.cas) × (new.cas ≤ last) → AreNumbered last items → AreNumbered last (map.insert items key new)
 numbered_insert last items key new numbered was q item is =
-    inserted_step last new new item (eq_by_cmp (slice_cmp nat_cmp) q key) (map.get items q) numbered (was q item) (sym (map.get-insert nat_list_cmp_total items key new q) ∙ is)
+    inserted_step last new item (eq_by_cmp (slice_cmp nat_cmp) q key) (map.get items q) numbered (was q item) (sym (map.get-insert nat_list_cmp_total items key new q) ∙ is)
 
 removed_step : (last : ℕ) (item : Item) (b : Bool) (found : Option Item) → (found ≡ Some item → (1 ≤ item.cas) × (item.cas ≤ last)) → cond b None found ≡ Some item → (1 ≤ item.cas) × (item.cas ≤ last)
 removed_step last item true found rest is = absurd (cc is)
@@ -101,10 +104,47 @@ numbered_remove last items key was q item is =
 numbered_more : (last more : ℕ) (items : Items) → last ≤ more → AreNumbered last items → AreNumbered more items
 numbered_more last more items rises was q item is = let one = was q item is in (one.0, omega (arith, one.1, rises))
 
+-- the number of a new item under a key is no other key's
+abbrev IsOwn : Items → List ℕ → Item → Type 0
+IsOwn items key new = (other : List ℕ) (another : Item) → map.get items other ≡ Some another → another.cas ≡ new.cas → key ≡ other
+
+same_key : (a b : List ℕ) → eq_by_cmp (slice_cmp nat_cmp) a b ≡ true → a ≡ b
+same_key a b same = (bytes_eq-Decides a b).0 (sym (is_eq-slice_cmp a b) ∙ same)
+
+module _ (items : Items) (key : List ℕ) (new : Item) (is_own : IsOwn items key new) (was : AreApart items) (q r : List ℕ) (item another : Item) where
+  own_step : (a b : Bool) → eq_by_cmp (slice_cmp nat_cmp) q key ≡ a → eq_by_cmp (slice_cmp nat_cmp) r key ≡ b
+      → cond a (Some new) (map.get items q) ≡ Some item → cond b (Some new) (map.get items r) ≡ Some another → item.cas ≡ another.cas → q ≡ r
+  own_step true true qk rk is other same = same_key q key qk ∙ sym (same_key r key rk)
+  own_step true false qk rk is other same =
+      let one : new ≡ item = cc is in same_key q key qk ∙ is_own r another other (sym same ∙ ap (λ (i : Item). i.cas) (sym one))
+  own_step false true qk rk is other same =
+      let one : new ≡ another = cc other in sym (is_own q item is (same ∙ ap (λ (i : Item). i.cas) (sym one))) ∙ sym (same_key r key rk)
+  own_step false false qk rk is other same = was q r item another is other same
+
+module _ (items : Items) (was : AreApart items) (q r : List ℕ) (item another : Item) where
+  removed_own : (a b : Bool) → cond a None (map.get items q) ≡ Some item → cond b None (map.get items r) ≡ Some another → item.cas ≡ another.cas → q ≡ r
+  removed_own true b is other same = absurd (cc is)
+  removed_own false true is other same = absurd (cc other)
+  removed_own false false is other same = was q r item another is other same
+
+own_insert : (items : Items) (key : List ℕ) (new : Item) → IsOwn items key new → AreApart items → AreApart (map.insert items key new)
+own_insert items key new is_own was q r item another is other same =
+    own_step items key new is_own was q r item another (eq_by_cmp (slice_cmp nat_cmp) q key) (eq_by_cmp (slice_cmp nat_cmp) r key) refl refl
+    (sym (map.get-insert nat_list_cmp_total items key new q) ∙ is) (sym (map.get-insert nat_list_cmp_total items key new r) ∙ other) same
+
+own_remove : (items : Items) (key : List ℕ) → AreApart items → AreApart (map.remove items key)
+own_remove items key was q r item another is other same =
+    removed_own items was q r item another (eq_by_cmp (slice_cmp nat_cmp) q key) (eq_by_cmp (slice_cmp nat_cmp) r key)
+    (sym (map.get-remove nat_list_cmp_total items key q) ∙ is) (sym (map.get-remove nat_list_cmp_total items key r) ∙ other) same
+
+-- a number above the last one is new
+new_own : (last : ℕ) (items : Items) (key : List ℕ) (new : Item) → last < new.cas → AreNumbered last items → IsOwn items key new
+new_own last items key new above was other another is same = absurd (omega (arith, above, (was other another is).1, same))
+
 clock_up : (c : Cache) (moment : ℕ) → GoesUp c (clock_next c moment)
 clock_up c moment =
-    cond_both (is_reached c.pending_flush moment) _ _ (GoesUp c) (λ _. record { rises = omega arith; numbers = λ was. record { mark = omega arith; items = was.items } })
-    (λ _. record { rises = omega arith; numbers = λ was. record { mark = was.mark; items = was.items } })
+    cond_both (is_reached c.pending_flush moment) _ _ (GoesUp c) (λ _. record { rises = omega arith; numbers = λ was. record { mark = omega arith; items = was.items; own = was.own } })
+    (λ _. record { rises = omega arith; numbers = λ was. record { mark = was.mark; items = was.items; own = was.own } })
 
 stored_up : (r : Option Stored) (c : Cache) (key : List ℕ) (item : Item) → item.cas ≡ c.last_cas + 1 → GoesUp c (stored_or r c key item).1
 stored_up (Some refusal) c key item number = stays c
@@ -113,6 +153,7 @@ stored_up None c key item number = record {
   numbers = λ was. record {
     mark = omega (arith, was.mark);
     items = numbered_insert (c.last_cas + 1) c.items key item (omega (arith, number), omega (arith, number)) (numbered_more c.last_cas (c.last_cas + 1) c.items (omega arith) was.items);
+    own = own_insert c.items key item (new_own c.last_cas c.items key item (omega (arith, number)) was.items) was.own;
   };
 }
 
@@ -125,14 +166,18 @@ looked_up : (c : Cache) (key : List ℕ) (look : Look) (live : Option Item) → 
 looked_up c key look None there = stays c
 looked_up c key look (Some item) there = record {
   rises = omega arith;
-  numbers = λ was. record { mark = was.mark; items = numbered_insert c.last_cas c.items key (fetched_item c look item) (was.items key item (there item refl)) was.items };
+  numbers = λ was. record {
+    mark = was.mark;
+    items = numbered_insert c.last_cas c.items key (fetched_item c look item) (was.items key item (there item refl)) was.items;
+    own = own_insert c.items key (fetched_item c look item) (λ other another is same. was.own key other item another (there item refl) is (sym same)) was.own;
+  };
 }
 
 step_up : (g : Geometry) (h : List Entry) (c : Cache) (e : Entry) → GoesUp c (next g h c e)
 step_up g h c (entries.Clock moment) = clock_up c moment
 step_up g h c (entries.Did id done) = done_up g h c done
 step_up g h c (entries.Looked id key look seen) = looked_up c key look (live_item h c key) (passed (is_live h c) (map.get c.items key))
-step_up g h c (entries.Dropped key cause) = record { rises = omega arith; numbers = λ was. record { mark = was.mark; items = numbered_remove c.last_cas c.items key was.items } }
+step_up g h c (entries.Dropped key cause) = record { rises = omega arith; numbers = λ was. record { mark = was.mark; items = numbered_remove c.last_cas c.items key was.items; own = own_remove c.items key was.own } }
 step_up g h c _ = stays c
 
 pub last_from : (g : Geometry) (h : List Entry) (c : Cache) (es : List Entry) → c.last_cas ≤ (cache_from g h c es).last_cas
@@ -144,7 +189,11 @@ numbers_from g h c [] was = was
 numbers_from g h c (e ∷ es) was = numbers_from g (h ++ e ∷ []) (next g h c e) es ((step_up g h c e).numbers was)
 
 first_numbers : HasNumbers first_cache
-first_numbers = record { mark = omega arith; items = λ key item is. absurd (cc (sym (map.get-empty (slice_cmp nat_cmp) key) ∙ is)) }
+first_numbers = record {
+  mark = omega arith;
+  items = λ key item is. absurd (cc (sym (map.get-empty (slice_cmp nat_cmp) key) ∙ is));
+  own = λ key other item another is at same. absurd (cc (sym (map.get-empty (slice_cmp nat_cmp) key) ∙ is));
+}
 
 pub has_numbers : (g : Geometry) (h : List Entry) → HasNumbers (cache_of g h)
 has_numbers g h = numbers_from g [] first_cache h first_numbers
