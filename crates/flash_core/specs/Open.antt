@@ -5,7 +5,7 @@ use Rattle.flash_names.specs.Geometry.{checked}
 use Rattle.flash_core.specs.declared.state.OpenWhy.{OpenWhy}
 use Rattle.flash_core.specs.declared.state.OpenWhy.TheVariants.{BadGeometry, NoMemory}
 
--- the geometry's first broken rule, exactly; memory may always be wanting
+-- the geometry's first broken rule, exactly; of want of memory nothing
 abbrev pub IsRefusedFor : Geometry → OpenWhy → Type 0
 IsRefusedFor g (BadGeometry rule) = checked g ≡ Err (record { rule = rule })
 IsRefusedFor g NoMemory = Unit {0}
