@@ -21,9 +21,8 @@ use std::alloc::{AllocError, Global};
 impl<J: Journal> Core<J> {
     /// Looks a key up. A live item gets the renewed deadline, counts as fetched, and was accessed now. A dead
     /// one is dropped first. Want of memory changes nothing, and doesn't come where the value isn't wanted and
-    /// the journal is ready. `id` has to be new: its
-    /// pass isn't 0, and each step of that pass in the journal has a smaller number, where the journal tells its
-    /// entries.
+    /// the journal is ready. `id` has to be new: its pass isn't 0, and each step of that pass in the journal has a
+    /// smaller number, where the journal tells its entries.
     pub fn look(
         &mut self,
         alloc: Global,
