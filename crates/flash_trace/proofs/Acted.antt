@@ -1,18 +1,15 @@
 -- What the commands of a session leave: its store and what it was answered.
-use Rattle.std.proofs.Common.{◌≡◌, ◌≢◌, ℕ, ◌≤◌, ◌^◌, true, List, [], ◌∷◌, ◌++◌, refl, sym, ◌∙◌, subst, arith, append_assoc}
-use Rattle.std.specs.Prelude.{min, nat_lt}
+use Rattle.std.proofs.Common.{◌≡◌, ◌≢◌, ℕ, ◌^◌, List, [], ◌∷◌, ◌++◌, refl, sym, ◌∙◌, subst, arith, append_assoc}
+use Rattle.std.specs.Prelude.{min}
 use Rattle.std.proofs.lemmas.List.{append-nil}
-use Rattle.std.proofs.lemmas.Bool.{cond_both}
-use Rattle.std.proofs.lemmas.Bool.Decides.{nat_tests}
 use Rattle.flash_names.specs.declared.geometry.Geometry.{Geometry}
 use Rattle.flash_entry.specs.declared.ask.Ask.TheVariants as asks
-use Rattle.flash_entry.specs.declared.entry.Entry.{Entry}
 use Rattle.flash_entry.specs.declared.found.Told.TheVariants as told
-use Rattle.flash_machine.specs.Cache.{Cache}
-use Rattle.flash_machine.specs.Legal.{IsNew, Rises}
+use Rattle.flash_machine.specs.Legal.{IsNew}
 use Rattle.flash_core.specs.Sound.{IsRun}
-use Rattle.flash_core.specs.Store.{Desk, Call}
-use Rattle.flash_core.specs.Calls.{store_call, look_call, clock_to, clock_call}
+use Rattle.flash_core.specs.Store.{Call}
+use Rattle.flash_core.specs.Calls.{store_call, look_call, clock_call}
+use Rattle.flash_core.proofs.Clocked.{clock_goes}
 use Rattle.flash_core.proofs.Told.{Goes, run_goes_on}
 use Rattle.flash_core.proofs.Steps.{store_goes, look_goes}
 use Rattle.flash_trace.specs.declared.command.Command.{Command}
@@ -33,17 +30,7 @@ pub record IsKept (g : Geometry) (k : StoreState) : Type 0 where
 kept_goes_on : {A : Type 0} (g : Geometry) (k : StoreState) (call : Call A) → IsKept g k → Goes g k.journal k.cache call.entries call.cache → AreHere call.cache.items → IsKept g (after_call k call)
 kept_goes_on g k call was goes here = record { run = run_goes_on g k.journal k.cache call.cache call.entries was.run goes; here = here }
 
--- the moment rises where the test says so
-rises_to : (c : Cache) (moment : ℕ) → nat_lt c.now moment ≡ true → moment ≤ 2 ^ 62 → Rises c moment
-rises_to c moment rises within = record { above = grind (arith, nat_tests); within = within }
-
--- a reading of the clock goes on, whether it rises or not
-clock_goes : (g : Geometry) (h : List Entry) (c : Cache) (desk : Desk) (moment : ℕ) → moment ≤ 2 ^ 62 → Goes g h c (clock_to c desk moment).entries (clock_to c desk moment).cache
-clock_goes g h c desk moment within =
-    cond_both (nat_lt c.now moment) _ _ (λ (call : Call _). Goes g h c call.entries call.cache) (λ rises. record { legal = (rises_to c moment rises within, tt); makes = refl })
-    (λ stays. record { legal = tt; makes = refl })
-
--- and the store is kept
+-- after a reading of the clock the store is kept
 pub clock_kept : (g : Geometry) (k : StoreState) (reading : ℕ) → IsKept g k → IsKept g (after_call k (clock_call k.cache k.desk reading))
 clock_kept g k reading was =
     kept_goes_on g k (clock_call k.cache k.desk reading) was (clock_goes g k.journal k.cache k.desk (min reading (2 ^ 62)) (omega arith)) (clock_here k.cache k.desk reading was.here)

@@ -19,7 +19,7 @@ use Rattle.flash_machine.specs.Looking.{seen_of}
 use Rattle.flash_core.specs.Store.{Desk, Call}
 use Rattle.flash_core.specs.Calls.{is_dead_at, sweep, store_call, look_call}
 use Rattle.flash_trace.specs.Answers.{entry_ask}
-use Rattle.flash_trace.proofs.Lists.{all_append}
+use Rattle.flash_core.proofs.News.{all_behind}
 
 -- an entry records no step, or this one with this ask
 abbrev pub IsOf : Id → Ask → Entry → Type 0
@@ -43,9 +43,9 @@ module _ (c : Cache) (desk : Desk) (id : Id) where
   pub store_asked : (g : Geometry) (put : Put) → AreOf id (asks.Store put) (store_call g c desk id put).entries
   store_asked g put =
       let own = entries.Did id (deeds.Store put (store_call g c desk id put).answer) in
-      all_append (IsOf id (asks.Store put)) (sweep c desk put.key).entries (own ∷ []) (swept_asked put.key (asks.Store put)) (own_asked (asks.Store put) own refl, tt)
+      all_behind (IsOf id (asks.Store put)) (sweep c desk put.key).entries (own ∷ []) (swept_asked put.key (asks.Store put)) (own_asked (asks.Store put) own refl, tt)
 
   pub look_asked : (key : List ℕ) (look : Look) → AreOf id (asks.Look key look) (look_call c desk id key look).entries
   look_asked key look =
       let own = entries.Looked id key look (seen_of (finite.get (sweep c desk key).cache.items key)) in
-      all_append (IsOf id (asks.Look key look)) (sweep c desk key).entries (own ∷ []) (swept_asked key (asks.Look key look)) (own_asked (asks.Look key look) own refl, tt)
+      all_behind (IsOf id (asks.Look key look)) (sweep c desk key).entries (own ∷ []) (swept_asked key (asks.Look key look)) (own_asked (asks.Look key look) own refl, tt)

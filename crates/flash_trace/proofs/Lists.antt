@@ -4,10 +4,6 @@ use Rattle.std.specs.Prelude.{slice_get, slice_set}
 use Rattle.std.specs.List.{AllByRecursion}
 
 module _ {A : Type 0} where
-  pub all_append : (P : A → Type 0) (xs ys : List A) → AllByRecursion P xs → AllByRecursion P ys → AllByRecursion P (xs ++ ys)
-  all_append P [] ys first behind = behind
-  all_append P (x ∷ xs) ys first behind = (first.0, all_append P xs ys first.1 behind)
-
   -- what follows for one element follows for all
   pub all_map : (P Q : A → Type 0) → ((x : A) → P x → Q x) → (xs : List A) → AllByRecursion P xs → AllByRecursion Q xs
   all_map P Q follows [] all = tt

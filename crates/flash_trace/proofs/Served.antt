@@ -20,7 +20,8 @@ use Rattle.flash_trace.specs.Answers.{ask_of, asks_of, outcome_from, or_no_memor
 use Rattle.flash_trace.specs.Replies.{step_text, plain_text}
 use Rattle.flash_trace.proofs.Outcomes.{outcome_behind, outcome_stays}
 use Rattle.flash_trace.proofs.Asked.{IsOf, AreOf}
-use Rattle.flash_trace.proofs.Lists.{all_append, all_map, get-front, get-seam}
+use Rattle.flash_core.proofs.News.{all_behind}
+use Rattle.flash_trace.proofs.Lists.{all_map, get-front, get-seam}
 use Rattle.flash_trace.proofs.Recorded.{Records}
 use Rattle.flash_trace.proofs.Answering.{answers_same, answers_from-append}
 
@@ -59,7 +60,7 @@ module _ (g : Geometry) (pass : ℕ) where
   served_behind h es done last said keeps was = record {
     said_is = was.said_is ∙ ap concat (answers_stay h es done last said was);
     last_is = was.last_is;
-    keeps = all_append (IsListed pass (asks_of done)) h es was.keeps keeps;
+    keeps = all_behind (IsListed pass (asks_of done)) h es was.keeps keeps;
     known = known_stays h es last was.known;
   }
 
@@ -141,7 +142,7 @@ module _ (g : Geometry) (pass : ℕ) where
         last_is = omega (arith, was.last_is, ap (λ (l : List Ask). length l) asks, length-append (asks_of done) (ask ∷ []));
         keeps =
             subst (λ (l : List Ask). KeepsTo pass l j) asks
-            (all_append (IsListed pass (asks_of done ++ ask ∷ [])) h es (keeps_more (asks_of done) (ask ∷ []) h was.keeps)
+            (all_behind (IsListed pass (asks_of done ++ ask ∷ [])) h es (keeps_more (asks_of done) (ask ∷ []) h was.keeps)
             (own_keeps (asks_of done) last ask es was.last_is records.asked));
         known = known_more j last told known own;
       }
