@@ -16,11 +16,13 @@ use Rattle.flash_trace.specs.Scripts.{Script, fault_of, script_of, script_of_lin
 pub read_bytes : (lent bytes : List ℕ) (left left_after : Option (List ℕ)) → lent ≡ bytes → HasRead bytes left left_after → HasRead lent left left_after
 read_bytes lent bytes left left_after same read = subst (λ (l : List ℕ). HasRead l left left_after) (sym same) read
 
--- a script that is longer than it may be has a bad line
+-- a script that is longer than it may be is a fault
+pub long_fault : (bytes : List ℕ) → 16777216 < length bytes → fault_of bytes ≡ Some (record { line = 0; why = TooLong })
+long_fault bytes long = ap (λ b. if b then too_long else lines_fault (lines_of bytes)) (lt-ltb 16777216 (length bytes) long)
+
 long_is_bad : (bytes : List ℕ) → 16777216 < length bytes → fault_of bytes ≡ None → ⊥
 long_is_bad bytes long good =
-    let clash : Some (record { line = 0; why = TooLong }) ≡ None = sym (ap (λ b. if b then too_long else lines_fault (lines_of bytes)) (lt-ltb 16777216 (length bytes) long)) ∙ good in
-    absurd (cc clash)
+    let clash : Some (record { line = 0; why = TooLong }) ≡ None = sym (long_fault bytes long) ∙ good in absurd (cc clash)
 
 -- a script that is read has no bad line
 good_script : (found : Option ScriptFault) (lines : Option Script) (script : Script) → (if is_none found then lines else None) ≡ Some script → found ≡ None

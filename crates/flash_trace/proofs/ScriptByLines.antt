@@ -12,7 +12,7 @@ use Rattle.flash_trace.specs.declared.fault.Why.TheVariants.{Short}
 use Rattle.flash_trace.specs.declared.fault.ScriptFault.{ScriptFault}
 use Rattle.flash_trace.specs.Steps.{Step}
 use Rattle.flash_trace.specs.Scripts.{Script, Lines, lines_of, step_of, geometry_of, fault_or, too_long, steps_fault, lines_fault, fault_of, steps_of, script_of_parts, script_of_lines, script_of}
-use Rattle.flash_trace.specs.ScriptLaws.{IsOfLines, IsStepLine, HasBadLine}
+use Rattle.flash_trace.specs.ScriptLaws.{IsOfLines, IsStepLine, HasBadLine, HasOpenLine}
 use Rattle.flash_trace.proofs.ScriptHead.{by_lines}
 use Rattle.flash_trace.proofs.ScriptReadings.{good_line, good_step}
 
@@ -48,6 +48,44 @@ first_bad bytes good why small few has =
     by_lines bytes small ∙ ap (λ (whole : List (List ℕ)). lines_fault (record { whole = whole; rest = rest })) has.parts
     ∙ pass_line 1 (geometry_of has.head) later has.geometry ∙ bad_behind 2 good has.bad has.more rest why (omega arith) has.steps has.fault
     ∙ ap (λ n. Some (record { line = n; why = why })) same
+
+-- a bad first line
+pub bad_head : (bytes head : List ℕ) (more : List (List ℕ)) (why : Why) → length bytes ≤ 16777216 → (lines_of bytes).whole ≡ head ∷ more → geometry_of head ≡ Err why
+    → fault_of bytes ≡ Some (record { line = 1; why = why })
+bad_head bytes head more why small parts bad =
+    let rest = (lines_of bytes).rest in
+    by_lines bytes small ∙ ap (λ (whole : List (List ℕ)). lines_fault (record { whole = whole; rest = rest })) parts
+    ∙ ap (λ (r : Result Geometry Why). fault_or 1 r (steps_fault 2 more rest)) bad
+
+-- bytes behind good lines that no line feed ends
+open_behind : (line : ℕ) (good : List (List ℕ)) (first : ℕ) (more : List ℕ) → line + length good ≤ 1048577
+    → AllByRecursion IsStepLine good → steps_fault line good (first ∷ more) ≡ Some (record { line = line + length good; why = Short })
+open_behind line [] first more few steps =
+    let in_range : nat_lt 1048577 line ≡ false = grind (arith, nat_tests) in
+    let same : line ≡ line + 0 = omega arith in
+    ap (λ t. if t then too_long else Some (record { line = line; why = Short })) in_range ∙ ap (λ n. Some (record { line = n; why = Short })) same
+open_behind line (text ∷ good) first more few steps =
+    let in_range : nat_lt 1048577 line ≡ false = grind (arith, nat_tests) in
+    let later = steps_fault (line + 1) good (first ∷ more) in
+    let same : line + 1 + length good ≡ line + length (text ∷ good) = omega arith in
+    ap (λ t. if t then too_long else fault_or line (step_of text) later) in_range ∙ pass_line line (step_of text) later steps.0
+    ∙ open_behind (line + 1) good first more (omega arith) steps.1
+    ∙ ap (λ n. Some (record { line = n; why = Short })) same
+
+pub short_line : (bytes : List ℕ) (good : List (List ℕ)) → length bytes ≤ 16777216 → length good < 1048576 → HasOpenLine (lines_of bytes) good
+    → fault_of bytes ≡ Some (record { line = length good + 2; why = Short })
+short_line bytes good small few has =
+    let later = steps_fault 2 good (has.first ∷ has.more) in
+    let same : 2 + length good ≡ length good + 2 = omega arith in
+    by_lines bytes small ∙ ap (λ (whole : List (List ℕ)). lines_fault (record { whole = whole; rest = (lines_of bytes).rest })) has.parts
+    ∙ ap (λ (rest : List ℕ). lines_fault (record { whole = has.head ∷ good; rest = rest })) has.open_line
+    ∙ pass_line 1 (geometry_of has.head) later has.geometry ∙ open_behind 2 good has.first has.more (omega arith) has.steps
+    ∙ ap (λ n. Some (record { line = n; why = Short })) same
+
+-- no line at all
+pub short_head : (bytes : List ℕ) → length bytes ≤ 16777216 → (lines_of bytes).whole ≡ [] → fault_of bytes ≡ Some (record { line = 1; why = Short })
+short_head bytes small none =
+    by_lines bytes small ∙ ap (λ (whole : List (List ℕ)). lines_fault (record { whole = whole; rest = (lines_of bytes).rest })) none
 
 -- lines without a fault: nothing stands behind the last one, and they aren't too many
 record IsWhole (line : ℕ) (lines : List (List ℕ)) (rest : List ℕ) : Type 0 where

@@ -2,6 +2,7 @@
 use Rattle.std.specs.Prelude.{◌≡◌, ◌<◌, ◌≤◌, ℕ, ◌+◌, List, [], ◌∷◌, ◌++◌, length, map, take, drop, Some, Ok, Err, is_some, is_none, is_ok, true}
 use Rattle.std.specs.List.{AllByRecursion}
 use Rattle.flash_trace.specs.declared.fault.Why.{Why}
+use Rattle.flash_trace.specs.declared.fault.Why.TheVariants.{Short, TooLong}
 use Rattle.flash_trace.specs.Steps.{AreSeated}
 use Rattle.flash_trace.specs.Scripts.{Script, Lines, lines_of, geometry_of, step_of, script_of, fault_of}
 
@@ -39,6 +40,34 @@ pub record HasBadLine (lines : Lines) (good : List (List ℕ)) (why : Why) : Typ
 abbrev pub IsFirstBadLine : Type 0
 IsFirstBadLine = (bytes : List ℕ) (good : List (List ℕ)) (why : Why) → length bytes ≤ 16777216 → length good < 1048576 → HasBadLine (lines_of bytes) good why
     → fault_of bytes ≡ Some (record { line = length good + 2; why = why })
+
+-- a first line that is bad is the fault
+abbrev pub IsBadHead : Type 0
+IsBadHead = (bytes head : List ℕ) (more : List (List ℕ)) (why : Why) → length bytes ≤ 16777216 → (lines_of bytes).whole ≡ head ∷ more → geometry_of head ≡ Err why
+    → fault_of bytes ≡ Some (record { line = 1; why = why })
+
+-- lines that are good, and bytes behind the last of them that no line feed ends
+pub record HasOpenLine (lines : Lines) (good : List (List ℕ)) : Type 0 where
+  pub head : List ℕ
+  pub parts : lines.whole ≡ head ∷ good
+  pub geometry : is_ok (geometry_of head) ≡ true
+  pub steps : AllByRecursion IsStepLine good
+  pub first : ℕ
+  pub more : List ℕ
+  pub open_line : lines.rest ≡ first ∷ more
+
+-- the line that no line feed ends is short, with its number
+abbrev pub IsShortLine : Type 0
+IsShortLine = (bytes : List ℕ) (good : List (List ℕ)) → length bytes ≤ 16777216 → length good < 1048576 → HasOpenLine (lines_of bytes) good
+    → fault_of bytes ≡ Some (record { line = length good + 2; why = Short })
+
+-- without a line feed line 1 is short
+abbrev pub IsShortHead : Type 0
+IsShortHead = (bytes : List ℕ) → length bytes ≤ 16777216 → (lines_of bytes).whole ≡ [] → fault_of bytes ≡ Some (record { line = 1; why = Short })
+
+-- too many bytes stand before all other faults
+abbrev pub HasTooManyBytes : Type 0
+HasTooManyBytes = (bytes : List ℕ) → 16777216 < length bytes → fault_of bytes ≡ Some (record { line = 0; why = TooLong })
 
 -- the sessions of a script that was read are from 1 to 16
 abbrev pub HasSeats : Type 0

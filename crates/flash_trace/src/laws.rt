@@ -2,7 +2,7 @@
 ghost use Rattle.flash_trace.specs.Answers.{EveryPlayIsRight};
 ghost use Rattle.flash_trace.specs.Ends.{EveryTraceIsRight};
 ghost use Rattle.flash_trace.specs.Fronts.{EachFrontMakesAFront};
-ghost use Rattle.flash_trace.specs.ScriptLaws.{AreReadOrBad, IsReadByLines, IsFirstBadLine, HasSeats};
+ghost use Rattle.flash_trace.specs.ScriptLaws.{AreReadOrBad, IsReadByLines, IsFirstBadLine, IsBadHead, IsShortLine, IsShortHead, HasTooManyBytes, HasSeats};
 
 /// Bytes are read as a script, and in one way, exactly where no line of theirs is bad.
 pub fn each_script_is_read_or_bad()
@@ -17,7 +17,13 @@ pub fn each_line_is_read()
 /// Where a step's line is bad, and line 1 and the steps' lines in front of it are good, that line is the fault, with
 /// its number.
 pub fn the_first_bad_line_is_the_fault()
-    ensures { IsFirstBadLine }
+    ensures step { IsFirstBadLine }
+
+    // A bad line 1 is the fault, and so is a last line that no line feed ends; too many bytes stand before all.
+    ensures head { IsBadHead }
+    ensures short { IsShortLine }
+    ensures short_head { IsShortHead }
+    ensures long { HasTooManyBytes }
 {}
 
 /// The sessions of a script that was read are from 1 to 16.
