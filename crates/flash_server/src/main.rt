@@ -2,6 +2,9 @@
 //! library.
 #![tactic(auto)]
 
+mod status;
+
+use crate::status::exit_status;
 use flash_device::FaultlessDevice;
 use flash_names::{Blob, ReaderSource, WriterSink};
 use flash_trace::{Status, run_trace};
@@ -31,28 +34,14 @@ exit status: 0 done, 2 usage, 3 a bad line in the script, 4 standard input faile
 // The version that the server will answer to memcached's `version`.
 const VERSION: &str = "flash_server 1.6-flash\n";
 
-// The statuses with which the program exits.
-const DONE: u8 = 0;
-
-const USAGE_FAULT: u8 = 2;
-
-const SCRIPT_FAULT: u8 = 3;
-
-const SOURCE_FAULT: u8 = 4;
-
-const SINK_FAULT: u8 = 5;
-
-const PREPARE_FAULT: u8 = 6;
-
-const NO_MEMORY: u8 = 7;
-
 fn main(rt: HostRuntime) -> ExitCode {
     let status = match read_words(&rt) {
         Ok(Some(words)) => run(&rt, &words),
-        Ok(None) => usage(&rt),
-        Err(AllocError) => failed(&rt, "out of memory", NO_MEMORY),
+        Ok(None) => Status::Usage,
+        Err(AllocError) => Status::NoMemory,
     };
-    ExitCode::from(status)
+    complain(&rt, status);
+    ExitCode::from(exit_status(status))
 }
 
 // The words of the command line behind the program's name, or `None` where one isn't UTF-8.
@@ -68,44 +57,38 @@ fn read_words(rt: &HostRuntime) -> Result<Option<Vec<Blob>>, AllocError> {
     Ok(Some(words))
 }
 
-fn run(rt: &HostRuntime, words: &[Blob]) -> u8 {
+fn run(rt: &HostRuntime, words: &[Blob]) -> Status {
     match words {
         [word] if word.bytes() == b"--help".as_slice() => print_text(rt, HELP),
         [word] if word.bytes() == b"--version".as_slice() => print_text(rt, VERSION),
         [word, ..] if word.bytes() == b"trace".as_slice() => trace(rt, words),
-        _ => usage(rt),
+        _ => Status::Usage,
     }
 }
 
-fn trace(rt: &HostRuntime, words: &[Blob]) -> u8 {
+fn trace(rt: &HostRuntime, words: &[Blob]) -> Status {
     let mut source = ReaderSource::new(rt.reader());
     let mut sink = WriterSink::new(io::writer(rt));
     let mut device = FaultlessDevice::new(rt.alloc());
-    match run_trace(rt.alloc(), words, &mut source, &mut sink, &mut device) {
-        Status::Done => DONE,
-        Status::Usage => usage(rt),
-        Status::Script(_) => SCRIPT_FAULT,
-        Status::SourceFault => failed(rt, "standard input failed", SOURCE_FAULT),
-        Status::SinkFault => failed(rt, "standard output failed", SINK_FAULT),
-        Status::PrepareFault => failed(rt, "the device failed", PREPARE_FAULT),
-        Status::NoMemory => failed(rt, "out of memory", NO_MEMORY),
-    }
+    run_trace(rt.alloc(), words, &mut source, &mut sink, &mut device)
 }
 
-// Prints the text to standard output, and answers the exit status.
-fn print_text(rt: &HostRuntime, text: &str) -> u8 {
+// Prints the text to standard output.
+fn print_text(rt: &HostRuntime, text: &str) -> Status {
     match rt.print(text) {
-        Ok(()) => DONE,
-        Err(_) => failed(rt, "standard output failed", SINK_FAULT),
+        Ok(()) => Status::Done,
+        Err(_) => Status::SinkFault,
     }
 }
 
-fn usage(rt: &HostRuntime) -> u8 {
-    let _ = eprint!(rt; "{USAGE}");
-    USAGE_FAULT
-}
-
-fn failed(rt: &HostRuntime, what: &str, status: u8) -> u8 {
-    let _ = eprintln!(rt; "flash_server: {what}");
-    status
+// Says on standard error what is wrong. The first bad line of a script is said on standard output, by the trace.
+fn complain(rt: &HostRuntime, status: Status) {
+    let _ = match status {
+        Status::Done | Status::Script(_) => Ok(()),
+        Status::Usage => eprint!(rt; "{USAGE}"),
+        Status::SourceFault => eprintln!(rt; "flash_server: standard input failed"),
+        Status::SinkFault => eprintln!(rt; "flash_server: standard output failed"),
+        Status::PrepareFault => eprintln!(rt; "flash_server: the device failed"),
+        Status::NoMemory => eprintln!(rt; "flash_server: out of memory"),
+    };
 }
