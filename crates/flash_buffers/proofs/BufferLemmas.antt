@@ -1,4 +1,4 @@
--- What a buffer keeps where a record is written behind those that are there.
+-- What a buffer keeps where a record is written after those that are there.
 use Rattle.std.proofs.Common.{◌≡◌, ℕ, ◌+◌, ◌-◌, ◌<◌, ◌≤◌, List, ◌++◌, length, take, drop, replicate, sym, ap, ◌∙◌, subst, arith, append_assoc, length-append, length-drop}
 use Rattle.std.proofs.Math.Seq.{take-append_seam}
 use Rattle.std.proofs.lemmas.List.{drop-replicate, drop-drop, drop_at}
@@ -10,14 +10,14 @@ lent len items new = take len (new ++ drop (length new) items)
 pub lent_is : {X : Type 0} (len : ℕ) (items new : List X) → length new ≡ len → lent len items new ≡ new
 lent_is len items new same = subst (λ (n : ℕ). take n (new ++ drop (length new) items) ≡ new) same (take-append_seam new (drop (length new) items))
 
--- the used bytes lie in the buffer, whose bytes end below 2^32 of the page, and zeros stand behind them
+-- the used bytes lie in the buffer, whose bytes end below 2^32 of the page, and zeros are after them
 abbrev pub Keeps : ℕ → ℕ → List ℕ → Type 0
 Keeps offset used bytes = (used ≤ length bytes) × (offset + length bytes < 4294967296) × (drop used bytes ≡ replicate (length bytes - used) 0)
 
 zeros : (n k : ℕ) (bytes : List ℕ) (used : ℕ) → drop used bytes ≡ replicate k 0 → drop (used + n) bytes ≡ replicate (k - n) 0
 zeros n k bytes used is = sym (drop-drop n used bytes) ∙ ap (λ (l : List ℕ). drop n l) is ∙ drop-replicate n k 0
 
--- what stands behind the record is as it was
+-- what is after the record is as it was
 rest_is : (used n : ℕ) (items new front : List ℕ) → new ≡ take used items ++ (front ++ drop (used + n) items) → length new ≡ length items → used + n ≤ length items → drop (used + n) new ≡ drop (used + n) items
 rest_is used n items new front is same inside =
     let before : List ℕ = take used items ++ front in

@@ -22,7 +22,7 @@ use Rattle.flash_buffers.proofs.ReadLemmas.{label_is, same_self, covering, cover
 abbrev byte_at : Label → ℕ → Place
 byte_at label at = record { label = label; offset = at; length = 1 }
 
--- a byte of a label stands in one buffer at most
+-- a byte of a label is in one buffer at most
 abbrev Apart : ℕ → List (Option Block) → Type 0
 Apart size blocks = (n m : ℕ) (label : Label) (at : ℕ) → covers size (byte_at label at) (get_or blocks n None) ≡ true → covers size (byte_at label at) (get_or blocks m None) ≡ true → n ≡ m
 
@@ -33,7 +33,7 @@ Fewer size was now = (n : ℕ) (label : Label) (at : ℕ) → covers size (byte_
 fewer_apart : (size : ℕ) (was now : List (Option Block)) → Fewer size was now → Apart size was → Apart size now
 fewer_apart size was now fewer apart = λ n m label at one other. apart n m label at (fewer n label at one) (fewer m label at other)
 
--- what stands at a place that was written, if there is such a place
+-- what is at a place that was written, if there is such a place
 pub set_at : (blocks : List (Option Block)) (k : ℕ) (block : Option Block) → (get_or (set blocks k block) k None ≡ block) ⊎ (get_or (set blocks k block) k None ≡ None)
 set_at [] zero block = inr refl
 set_at [] (suc k) block = inr refl
@@ -51,7 +51,7 @@ at_new size place blocks k block has =
 at_old : (size : ℕ) (place : Place) (blocks : List (Option Block)) (k n : ℕ) (block : Option Block) → n ≢ k → covers size place (get_or (set blocks k block) n None) ≡ true → covers size place (get_or blocks n None) ≡ true
 at_old size place blocks k n block other has = subst (λ (b : Option Block). covers size place b ≡ true) (get_or-set_other blocks k n block None other) has
 
--- a buffer in whose place stands one that has no byte that it hadn't
+-- a buffer in whose place is one that has no byte that it hadn't
 set_fewer : (size : ℕ) (blocks : List (Option Block)) (k : ℕ) (block : Option Block) → ((label : Label) (at : ℕ) → covers size (byte_at label at) block ≡ true → covers size (byte_at label at) (get_or blocks k None) ≡ true) → Fewer size blocks (set blocks k block)
 set_fewer size blocks k block less = λ n label at has.
     elim (eqb_tells n k) [

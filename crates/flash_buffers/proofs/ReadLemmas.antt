@@ -58,7 +58,7 @@ read_only size place (first ∷ rest) n block is covers_it only = read_next size
   read_next size place first rest (suc n) block false here is covers_it only later =
       later n is covers_it (λ m at. omega (arith, only (suc m) at))
 
--- the bytes of records are read with no regard to the zeros behind them
+-- the bytes of records are read with no regard to the zeros after them
 pub in_records : (place : Place) (size : ℕ) (block : Block) → block.offset ≤ place.offset → place.offset + place.length ≤ block.offset + length block.records → bytes_in size place (Some block) ≡ take place.length (drop (place.offset - block.offset) block.records)
 in_records place size block low high =
     let start : ℕ = place.offset - block.offset in

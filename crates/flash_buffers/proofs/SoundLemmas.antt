@@ -18,7 +18,7 @@ use Rattle.flash_buffers.specs.Sound.{IsSound, IsTaken, free_slot}
 pub block_at : (slots : List Slot) (n : ℕ) → get_or (blocks_in slots) n None ≡ (get_or slots n free_slot).block
 block_at slots n = get_or-map (λ slot. slot.block) slots n free_slot
 
--- within a list it doesn't matter what is read behind its end
+-- within a list it doesn't matter what is read after its end
 pub inside_or : {X : Type 0} (xs : List X) (n : ℕ) (d e : X) → n < length xs → get_or xs n d ≡ get_or xs n e
 inside_or [] n d e inside = absurd (omega (arith, inside))
 inside_or (x ∷ xs) zero d e inside = refl

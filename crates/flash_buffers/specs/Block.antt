@@ -5,7 +5,7 @@ use Rattle.flash_names.specs.declared.place.Label.{Label}
 use Rattle.flash_names.specs.declared.place.Place.{Place}
 use Rattle.flash_record.specs.Record.{Parts, record_length, record_bytes}
 
--- the label of its page, where it begins in the page, and the bytes of its records, one behind the other
+-- the label of its page, where it begins in the page, and the bytes of its records, one after the other
 pub record Block : Type 0 where
   pub label : Label
   pub offset : ℕ
@@ -28,7 +28,7 @@ block_bytes size block = block.records ++ replicate (size - length block.records
 abbrev pub block_place : ℕ → Block → Place
 block_place size block = record { label = block.label; offset = block.offset; length = size }
 
--- whether a record of n bytes fits behind those that are there
+-- whether a record of n bytes fits after those that are there
 abbrev pub fits_in : ℕ → ℕ → Block → Bool
 fits_in size n block = nat_le (length block.records + n) size
 
@@ -36,12 +36,12 @@ fits_in size n block = nat_le (length block.records + n) size
 abbrev pub parts_in : List ℕ → ℕ → ℕ → List ℕ → Block → Parts
 parts_in key flags cas value block = record { key = key; flags = flags; cas = cas; version = block.label.version; value = value }
 
--- where the record is to stand, if it fits
+-- where the record is to be, if it fits
 abbrev pub next_place : ℕ → Parts → Block → Option Place
 next_place size p block =
     if fits_in size (record_length p) block then Some (record { label = block.label; offset = block.offset + length block.records; length = record_length p }) else None
 
--- with the record behind the others, if it fits
+-- with the record after the others, if it fits
 abbrev pub with_record : ℕ → Parts → Block → Block
 with_record size p block =
     if fits_in size (record_length p) block then record block { records = block.records ++ record_bytes p } else block
@@ -50,6 +50,6 @@ with_record size p block =
 abbrev pub place_in : ℕ → List ℕ → ℕ → ℕ → List ℕ → Option Block → Option Place
 place_in size key flags cas value block = option_and_then (λ b. next_place size (parts_in key flags cas value b) b) block
 
--- a buffer's block with the record behind the others, where it is taken and the record fits
+-- a buffer's block with the record after the others, where it is taken and the record fits
 abbrev pub appended_in : ℕ → List ℕ → ℕ → ℕ → List ℕ → Option Block → Option Block
 appended_in size key flags cas value block = option_map (λ b. with_record size (parts_in key flags cas value b) b) block

@@ -26,7 +26,7 @@ block_of t number = slice_index_or t.blocks number None
 abbrev pub first_free : BufferTable → Option ℕ
 first_free t = position_from (λ block. is_none block) 0 t.blocks
 
--- whether the buffer stands in the queue
+-- whether the buffer is in the queue
 abbrev pub is_sealed : BufferTable → ℕ → Bool
 is_sealed t number = list_any (λ n. nat_eq n number) t.queue
 

@@ -5,7 +5,7 @@ use Rattle.flash_names.specs.declared.place.Place.{Place}
 use Rattle.flash_buffers.specs.Block.{Slot, blocks_in}
 use Rattle.flash_buffers.specs.Covering.{covers, bytes_in, read_in}
 
--- what is read behind the last buffer
+-- what is read after the last buffer
 abbrev pub free_slot : Slot
 free_slot = record { size = 0; block = None }
 

@@ -29,13 +29,13 @@ impl Model for Buffer {
       block = option_map (λ label. record { label = label; offset = b.offset; records = take b.used b.bytes.items }) b.label;
     } };
 
-    // Behind its records a buffer has zeros.
+    // After its records a buffer has zeros.
     ghost invariant = { λ b. (b.used ≤ length b.bytes.items) × (b.offset + length b.bytes.items < 2 ^ 32)
         × (drop b.used b.bytes.items ≡ replicate (length b.bytes.items - b.used) 0) };
 }
 
 impl Buffer {
-    /// A free buffer of this size, or want of memory.
+    /// A free buffer of this size, or an error where memory runs out.
     pub fn new(alloc: Global, size: u32) -> Result<Buffer, AllocError>
         ensures { IfOk result (λ buffer. buffer ≡ record { size = size; block = None }) }
     {
@@ -111,7 +111,7 @@ impl Buffer {
         })
     }
 
-    /// Whether a record of so many bytes fits behind those that are there.
+    /// Whether a record of so many bytes fits after those that are there.
     pub fn fits(&self, length: usize) -> bool
         ensures { IfSome self.now.block (λ block. result ≡ fits_in self.now.size length block) }
     {
@@ -139,7 +139,7 @@ impl Buffer {
         &self.bytes[start..start + place.length as usize]
     }
 
-    /// Writes the record of these parts, with the version of its label, behind those that are there, and
+    /// Writes the record of these parts, with the version of its label, after those that are there, and
     /// answers its place; `None` where it doesn't fit.
     pub fn append(&mut self, key: &Key, flags: u32, cas: u64, value: &[u8]) -> Option<Place>
         ensures place { result ≡ place_in self.old.size key.now flags cas value.now self.old.block }
@@ -157,7 +157,7 @@ impl Buffer {
     }
 }
 
-// Sets the bytes in front of those that are zero.
+// Sets the bytes before those that are zero.
 fn zero_front(bytes: &mut [u8], used: usize)
     requires used { used ≤ length bytes.old }
     requires zeros { drop used bytes.old ≡ replicate (length bytes.old - used) 0 }
@@ -166,7 +166,7 @@ fn zero_front(bytes: &mut [u8], used: usize)
     bytes[..used].fill(0);
 }
 
-// Writes the record behind the used bytes, and answers its length; `None` where it doesn't fit.
+// Writes the record after the used bytes, and answers its length; `None` where it doesn't fit.
 fn write_behind(
     bytes: &mut [u8],
     used: usize,

@@ -24,7 +24,7 @@ pub struct BufferId {
 pub struct WriteJob {
     /// The block's place.
     pub place: Place,
-    /// Its bytes: records one behind the other, then zeros.
+    /// Its bytes: records one after the other, then zeros.
     pub bytes: Blob,
 }
 
@@ -54,7 +54,7 @@ impl Model for Buffers {
 impl Buffers {
     ghost use Rattle.flash_buffers.specs.Calls.{after, takes, appends, seals, begins, writes, unwrites, drops, next_job, is_idle, IsOut, IsNotOut, CanTake};
 
-    /// So many free buffers of so many bytes, and one spare, or want of memory. No later call answers that.
+    /// So many free buffers of so many bytes, and one spare, or an error where memory runs out. No later call answers that.
     pub fn open(alloc: Global, buffers: u32, size: u32) -> Result<Buffers, AllocError>
         ensures { IfOk result (λ all. all ≡ first_table buffers size) }
     {
@@ -100,7 +100,7 @@ impl Buffers {
         row.fits(length)
     }
 
-    /// Writes the record of these parts, with the version of the buffer's label, behind those that are there,
+    /// Writes the record of these parts, with the version of the buffer's label, after those that are there,
     /// and answers its place; `None`, and nothing has changed, where it doesn't fit in the rest. The buffer has
     /// to be taken and not sealed.
     pub fn append(

@@ -35,7 +35,7 @@ pub fn keeps_the_law()
     ensures part { (t : BufferTable) (calls : List Call) →
         IsPartOf (all_written t calls ++ (after_all calls t).queue) (t.queue ++ all_sealed calls) }
 
-    // The bytes of a block are whole records of its version, one behind the other.
+    // The bytes of a block are whole records of its version, one after the other.
     ensures records { (buffers size : ℕ) (calls : List Call) (number : ℕ) →
         size < 2 ^ 32 → AllHaveWidths calls → ForSome (block_of (after_all calls (first_table buffers size)) number) AreRecords }
 {}

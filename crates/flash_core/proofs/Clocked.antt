@@ -3,7 +3,7 @@ use Rattle.std.proofs.Common.{◌≡◌, ℕ, ◌^◌, ◌<◌, ◌≤◌, Bool,
 use Rattle.std.specs.Prelude.{nat_lt}
 use Rattle.std.proofs.lemmas.Bool.{cond_both}
 use Rattle.std.proofs.lemmas.Bool.Decides.{nat_tests}
-use Rattle.flash_names.specs.Told.{behind}
+use Rattle.flash_names.specs.Told.{with_more}
 use Rattle.flash_names.specs.declared.geometry.Geometry.{Geometry}
 use Rattle.flash_entry.specs.declared.entry.Entry.{Entry}
 use Rattle.flash_entry.specs.declared.entry.Entry.TheVariants as entries
@@ -31,7 +31,7 @@ clock_goes g h c desk moment within =
 
 -- the store is sound at the new moment
 pub clock_sound : (g : Geometry) (items : List Item) (now moment last : ℕ) (told told2 : Option (List Entry)) → IsSound g items now last told → now < moment → moment ≤ 2 ^ 62
-    → told2 ≡ behind (entries.Clock moment ∷ []) told → IsSound g items moment last told2
+    → told2 ≡ with_more (entries.Clock moment ∷ []) told → IsSound g items moment last told2
 clock_sound g items now moment last told told2 was above within noted =
     let run = told_goes_on g (cache_of_items items now last) (cache_of_items items moment last) told (entries.Clock moment ∷ []) was.run
     (λ h tells. rise_goes g h (cache_of_items items now last) moment above within) in

@@ -68,8 +68,8 @@ module _ (P : Item → Type 0) where
   all-replaced k new (i ∷ is) one all = all_replaced_step new i is (replaced k new is) (bytes_eq k i.key) one all (all-replaced k new is one all.1)
 
   found_step : (i found : Item) (rest : Option Item) (a : Bool) → P i → (rest ≡ Some found → P found) → (if a then Some i else rest) ≡ Some found → P found
-  found_step i found rest true one behind is = let same : i ≡ found = cc in subst P same one
-  found_step i found rest false one behind is = behind is
+  found_step i found rest true one with_more is = let same : i ≡ found = cc in subst P same one
+  found_step i found rest false one with_more is = with_more is
 
   -- an item that is found
   pub all_found : (k : List ℕ) (is : List Item) (found : Item) → AllByRecursion P is → find_item k is ≡ Some found → P found
@@ -86,8 +86,8 @@ kept-more item_max last more (i ∷ is) le all = (
 
 -- the key of an item that is found
 key_step : (k : List ℕ) (i found : Item) (rest : Option Item) (a : Bool) → bytes_eq k i.key ≡ a → (rest ≡ Some found → found.key ≡ k) → (if a then Some i else rest) ≡ Some found → found.key ≡ k
-key_step k i found rest true same behind is = let one : i ≡ found = cc in ap (λ (j : Item). j.key) (sym one) ∙ sym (same_key k i.key same)
-key_step k i found rest false other behind is = behind is
+key_step k i found rest true same with_more is = let one : i ≡ found = cc in ap (λ (j : Item). j.key) (sym one) ∙ sym (same_key k i.key same)
+key_step k i found rest false other with_more is = with_more is
 
 pub key_found : (k : List ℕ) (is : List Item) (found : Item) → find_item k is ≡ Some found → found.key ≡ k
 key_found k [] found is = absurd (cc is)

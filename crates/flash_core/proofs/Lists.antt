@@ -17,7 +17,7 @@ use Rattle.flash_core.proofs.Pairs.{get-items, items_of-without}
 use Rattle.flash_core.proofs.Kept.{none-without, all_found, keys_of-without, removed_is_without}
 use Rattle.flash_core.proofs.Sweeps.{IsHere}
 
--- what stands at a key's place is its first item
+-- what is at a key's place is its first item
 pub found_at : (key : List ℕ) (items : List Item) (place : Option ℕ) → IsPlace key items place → option_and_then (slice_get items) place ≡ find_item key items
 found_at key items None none = sym none
 found_at key items (Some at) place = sym place.found

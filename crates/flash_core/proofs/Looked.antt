@@ -3,7 +3,7 @@ use Rattle.std.proofs.Common.{◌≡◌, ℕ, Bool, true, false, List, [], ◌�
 use Rattle.std.specs.Prelude.{slice_get}
 use Rattle.std.specs.Option.{option_map, option_map_or, option_and_then}
 use Rattle.std.specs.FinMap as finite
-use Rattle.flash_names.specs.Told.{behind}
+use Rattle.flash_names.specs.Told.{with_more}
 use Rattle.flash_names.specs.declared.place.Id.{Id}
 use Rattle.flash_names.specs.declared.geometry.Geometry.{Geometry}
 use Rattle.flash_entry.specs.declared.ask.Look.{Look}
@@ -12,7 +12,7 @@ use Rattle.flash_entry.specs.declared.entry.Entry.TheVariants as entries
 use Rattle.flash_machine.specs.Item as machine
 use Rattle.flash_machine.specs.Moments.{is_reached}
 use Rattle.flash_machine.specs.Cache.{Cache}
-use Rattle.flash_machine.specs.Looking.{seen_of, look_next}
+use Rattle.flash_machine.specs.Looking.{residence_of, look_next}
 use Rattle.flash_core.specs.declared.item.Item.{Item}
 use Rattle.flash_core.specs.declared.found.Found.{Found}
 use Rattle.flash_core.specs.Items.{find_item, without, replaced, item_of, items_of, cache_of_items, HaveOwnKeys, HaveOwnNumbers, HasDeadline, IsKept, AreKept}
@@ -86,15 +86,15 @@ module _ (g : Geometry) (items : List Item) (moment last : ℕ) (told : Option (
     pub answer : found ≡ call.answer
     pub cache : cache_of_items items2 moment last ≡ call.cache
     pub desk : desk_of items2 ≡ call.desk
-    pub noted : told2 ≡ behind call.entries told
+    pub noted : told2 ≡ with_more call.entries told
     pub sound : IsSound g items2 moment last told2
 
-  -- what the call does behind the sweep that the code made
+  -- what the call does after the sweep that the code made
   record LooksAs (dead : Bool) (live : Option machine.Item) (found : Found) (items2 : List Item) (after : Call Found) : Type 0 where
     answer : found ≡ after.answer
     cache : cache_of_items items2 moment last ≡ after.cache
     desk : desk_of items2 ≡ after.desk
-    entries : drop_of key dead ++ entries.Looked id key look (seen_of live) ∷ [] ≡ after.entries
+    entries : drop_of key dead ++ entries.Looked id key look (residence_of live) ∷ [] ≡ after.entries
 
   live_found : (dead : Bool) (place : Option ℕ) (live : Option Item) → IsPlace key items place → live ≡ (if dead then None else option_and_then (slice_get items) place) → cached_item live ≡ (if dead then None else option_map item_of (find_item key items))
   live_found true place live at is = ap cached_item is
@@ -108,7 +108,7 @@ module _ (g : Geometry) (items : List Item) (moment last : ℕ) (told : Option (
       → found ≡ found_of (cache_without_items moment 0) look (cached_item live)
       → items2 ≡ marked_at look.renew moment place dead items
       → (dead ≡ false → (i : Item) → option_and_then (slice_get items) place ≡ Some i → HasDeadline (marked look.renew moment i))
-      → told2 ≡ behind (drop_of key dead ++ entries.Looked id key look (seen_of (cached_item live)) ∷ []) told
+      → told2 ≡ with_more (drop_of key dead ++ entries.Looked id key look (residence_of (cached_item live)) ∷ []) told
       → IsLooked found items2 told2
   is_looked place dead live found items2 told2 new at dead_at live_at answer marked_to below noted =
       let own = was.own_keys in
@@ -123,11 +123,11 @@ module _ (g : Geometry) (items : List Item) (moment last : ℕ) (told : Option (
         answer = answer ∙ ap (λ (l : Option machine.Item). found_of swept.cache look l) live_eq;
         cache = ap (λ (l : List Item). cache_of_items l moment last) items_are ∙ parts.cache ∙ ap (λ (l : Option machine.Item). look_next swept.cache key look l) (sym there);
         desk = ap desk_of items_are ∙ parts.desk;
-        entries = ap (λ (l : Option machine.Item). drop_of key dead ++ entries.Looked id key look (seen_of l) ∷ []) live_eq;
+        entries = ap (λ (l : Option machine.Item). drop_of key dead ++ entries.Looked id key look (residence_of l) ∷ []) live_eq;
       } in
-      let is_dead = dead_is items moment last key g.item_max own kept dead place at dead_at in
-      let all = subst (λ (s : Call Bool). LooksAs dead (cached_item live) found items2 (look_after s id key look)) (sym (swept_call_is items moment last key g.item_max own kept dead is_dead)) looks in
-      let noted_is : told2 ≡ behind call.entries told = noted ∙ ap (λ (l : List Entry). behind l told) all.entries in
+      let is_expired_item = dead_is items moment last key g.item_max own kept dead place at dead_at in
+      let all = subst (λ (s : Call Bool). LooksAs dead (cached_item live) found items2 (look_after s id key look)) (sym (swept_call_is items moment last key g.item_max own kept dead is_expired_item)) looks in
+      let noted_is : told2 ≡ with_more call.entries told = noted ∙ ap (λ (l : List Entry). with_more l told) all.entries in
       let run = told_goes_on g before call.cache told call.entries was.run (λ h tells. look_goes g h before (desk_of items) id key look (all_here items moment last key g.item_max own kept) (new h tells)) in
       record {
         answer = all.answer;

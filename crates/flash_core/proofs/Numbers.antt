@@ -33,4 +33,4 @@ replaced_step k new i old is false same found own rest =
 pub numbers-replaced : (k : List ℕ) (new : Item) (is : List Item) (old : Item) → new.cas ≡ old.cas → find_item k is ≡ Some old → HaveOwnNumbers is → HaveOwnNumbers (replaced k new is)
 numbers-replaced k new [] old same found own = tt
 numbers-replaced k new (i ∷ is) old same found own =
-    replaced_step k new i old is (bytes_eq k i.key) same found own (λ behind. numbers-replaced k new is old same behind own.1)
+    replaced_step k new i old is (bytes_eq k i.key) same found own (λ with_more. numbers-replaced k new is old same with_more own.1)

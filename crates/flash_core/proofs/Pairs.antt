@@ -69,7 +69,7 @@ module _ (q k : List ℕ) (i : Item) (is : List Item) where
   replaced_step new false false true key ka qb qc rest = rw qc refl
   replaced_step new false false false key ka qb qc rest = rw qc (rest refl)
 
--- what is found behind an item that is another key's
+-- what is found after an item that is another key's
 pub behind_other : (a : Bool) (i old : Item) (found : Option Item) → (if a then Some i else found) ≡ Some old → a ≡ false → found ≡ Some old
 behind_other true i old found is other = absurd (cc other)
 behind_other false i old found is other = is
@@ -102,7 +102,7 @@ items_of-replaced k new is old key found = same_items (items_of (replaced k new 
     get-items (replaced k new is) q ∙ ap (option_map item_of) (find-replaced k new is old key found q) ∙ mapped (bytes_eq q k) (Some new) (find_item q is)
     ∙ ap (cond (bytes_eq q k) (Some (item_of new))) (sym (get-items is q)) ∙ sym (get-inserted (items_of is) k (item_of new) q))
 
--- an item in front of those without its key, as it is found
+-- an item before those without its key, as it is found
 found_in_front : (q k : List ℕ) (new : Item) (is : List Item) (b : Bool) → new.key ≡ k → bytes_eq q k ≡ b → HaveOwnKeys is
     → find_item q (new ∷ without k is) ≡ cond b (Some new) (find_item q is)
 found_in_front q k new is true key qk own = rw (key, qk) refl

@@ -10,9 +10,9 @@ use Rattle.flash_core.specs.Places.{IsPlaceOf, IsPlace}
 
 -- the place, where the first one is counted from n
 record IsFrom (key : List ℕ) (items : List Item) (n at : ℕ) : Type 0 where
-  behind : ℕ
-  is : at ≡ n + behind
-  place : IsPlaceOf key items behind
+  with_more : ℕ
+  is : at ≡ n + with_more
+  place : IsPlaceOf key items with_more
 
 abbrev IsFirstFrom : List ℕ → List Item → ℕ → Option ℕ → Type 0
 IsFirstFrom key items n None = find_item key items ≡ None
@@ -27,7 +27,7 @@ at_front key i items same = record {
   set = λ new. rw same refl;
 }
 
--- another item stands in front
+-- another item is in front
 one_behind : (key : List ℕ) (i : Item) (items : List Item) (at : ℕ) → bytes_eq key i.key ≡ false → IsPlaceOf key items at → IsPlaceOf key (i ∷ items) (suc at)
 one_behind key i items at other place = record {
   within = omega (arith, place.within);
@@ -38,7 +38,7 @@ one_behind key i items at other place = record {
 
 go_on : (key : List ℕ) (i : Item) (items : List Item) (n : ℕ) (found : Option ℕ) → bytes_eq key i.key ≡ false → IsFirstFrom key items (n + 1) found → IsFirstFrom key (i ∷ items) n found
 go_on key i items n None other none = rw other none
-go_on key i items n (Some at) other from = record { behind = suc from.behind; is = omega (arith, from.is); place = one_behind key i items from.behind other from.place }
+go_on key i items n (Some at) other from = record { with_more = suc from.with_more; is = omega (arith, from.is); place = one_behind key i items from.with_more other from.place }
 
 abbrev test : List ℕ → Item → Bool
 test key item = bytes_eq key item.key
@@ -48,12 +48,12 @@ first_from key [] n = refl
 first_from key (i ∷ items) n = by_test (bytes_eq key i.key) refl (first_from key items (n + 1))
   where
     by_test : (same : Bool) → bytes_eq key i.key ≡ same → IsFirstFrom key items (n + 1) (position_from (test key) (n + 1) items) → IsFirstFrom key (i ∷ items) n (cond same (Some n) (position_from (test key) (n + 1) items))
-    by_test true is rest = record { behind = 0; is = omega arith; place = at_front key i items is }
+    by_test true is rest = record { with_more = 0; is = omega arith; place = at_front key i items is }
     by_test false is rest = go_on key i items n (position_from (test key) (n + 1) items) is rest
 
 from_zero : (key : List ℕ) (items : List Item) (found : Option ℕ) → IsFirstFrom key items 0 found → IsPlace key items found
 from_zero key items None none = none
-from_zero key items (Some at) from = let same : from.behind ≡ at = omega (arith, from.is) in subst (λ (n : ℕ). IsPlaceOf key items n) same from.place
+from_zero key items (Some at) from = let same : from.with_more ≡ at = omega (arith, from.is) in subst (λ (n : ℕ). IsPlaceOf key items n) same from.place
 
 pub position_is_place : (key : List ℕ) (items : List Item) (found : Option ℕ) → found ≡ position (λ item. bytes_eq key item.key) items → IsPlace key items found
 position_is_place key items found is =

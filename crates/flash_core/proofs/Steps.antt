@@ -1,4 +1,4 @@
--- A call behind its sweep is legal.
+-- A call after its sweep is legal.
 use Rattle.std.proofs.Common.{◌≡◌, List, [], ◌∷◌, ◌++◌, Option, sym, ◌∙◌, ap, subst}
 use Rattle.flash_names.specs.declared.place.Id.{Id}
 use Rattle.flash_names.specs.declared.geometry.Geometry.{Geometry}
@@ -8,7 +8,7 @@ use Rattle.flash_entry.specs.declared.entry.Entry.{Entry}
 use Rattle.flash_machine.specs.Item.{Item}
 use Rattle.flash_machine.specs.Cache.{Cache}
 use Rattle.flash_machine.specs.Storing.{store_step}
-use Rattle.flash_machine.specs.Looking.{seen_of, look_next}
+use Rattle.flash_machine.specs.Looking.{residence_of, look_next}
 use Rattle.flash_machine.specs.Steps.{next}
 use Rattle.flash_machine.specs.Legal.{Meets, LegalFrom, IsNew}
 use Rattle.flash_machine.proofs.Runs.{LegalFrom-append, cache_from-append}
@@ -17,7 +17,7 @@ use Rattle.flash_core.specs.Calls.{sweep, store_call, look_call}
 use Rattle.flash_core.proofs.Told.{Goes}
 use Rattle.flash_core.proofs.Sweeps.{IsHere, sweeps}
 
--- entries with one more behind them
+-- entries with one more after them
 pub goes_behind : (g : Geometry) (h : List Entry) (c mid after : Cache) (es : List Entry) (e : Entry) → Goes g h c es mid → Meets g (h ++ es) mid e → next g (h ++ es) mid e ≡ after → Goes g h c (es ++ e ∷ []) after
 goes_behind g h c mid after es e goes meets makes = record {
   legal = LegalFrom-append g h c es (e ∷ []) goes.legal (subst (λ (d : Cache). LegalFrom g (h ++ es) d (e ∷ [])) (sym goes.makes) (meets, tt));
@@ -41,5 +41,5 @@ look_goes g h c desk id key look here new =
     let swept = sweeps g h c desk key here in
     let live = swept.live (h ++ s.entries) in
     goes_behind g h c s.cache _ s.entries _ swept.goes
-    (swept.new id new, ap seen_of (sym live))
+    (swept.new id new, ap residence_of (sym live))
     (ap (look_next s.cache key look) live)

@@ -2,7 +2,7 @@
 use Rattle.std.proofs.Common.{◌≡◌, ℕ, ◌<◌, ◌≤◌, Bool, false, ◌||◌, List, [], ◌∷◌, ◌++◌, Option, None, Some, if◌then◌else◌, sym, ◌∙◌, ap, subst}
 use Rattle.std.specs.Prelude.{slice_get, is_some}
 use Rattle.std.specs.Option.{option_map_or, option_and_then, option_to_list}
-use Rattle.flash_names.specs.Told.{behind}
+use Rattle.flash_names.specs.Told.{with_more}
 use Rattle.flash_names.specs.declared.place.Id.{Id}
 use Rattle.flash_names.specs.declared.geometry.Geometry.{Geometry}
 use Rattle.flash_entry.specs.declared.ask.Put.{Put}
@@ -32,7 +32,7 @@ module _ (g : Geometry) (items : List Item) (moment last : ℕ) (told : Option (
     pub answer : choice.answer ≡ (store_call g before (desk_of items) id put).answer
     pub cache : cache_of_items items2 moment choice.last_cas ≡ (store_call g before (desk_of items) id put).cache
     pub desk : desk_of items2 ≡ (store_call g before (desk_of items) id put).desk
-    pub noted : told2 ≡ behind (store_call g before (desk_of items) id put).entries told
+    pub noted : told2 ≡ with_more (store_call g before (desk_of items) id put).entries told
     pub sound : IsSound g items2 moment choice.last_cas told2
 
   pub is_stored : (place : Option ℕ) (dead : Bool) (live : Option Item) (choice : Choice) (items2 : List Item) (told2 : Option (List Entry))
@@ -45,7 +45,7 @@ module _ (g : Geometry) (items : List Item) (moment last : ℕ) (told : Option (
       → ((i : Item) → choice.item ≡ Some i → last < i.cas)
       → AreKept g.item_max choice.last_cas (option_to_list choice.item)
       → items2 ≡ in_front choice.item (removed (leaving place (dead || is_some choice.item)) items)
-      → told2 ≡ behind (drop_of put.key dead ++ entries.Did id (deeds.Store put choice.answer) ∷ []) told
+      → told2 ≡ with_more (drop_of put.key dead ++ entries.Did id (deeds.Store put choice.answer) ∷ []) told
       → IsStored choice items2 told2
   is_stored place dead live choice items2 told2 new at dead_at live_at chose rises above numbered put_at noted =
       let own = was.own_keys in
@@ -53,7 +53,7 @@ module _ (g : Geometry) (items : List Item) (moment last : ℕ) (told : Option (
       let call = store_call g before (desk_of items) id put in
       let items_are : items2 ≡ stored_items dead choice.item put.key items = put_at ∙ after_items items moment last put.key g.item_max own was.kept dead place choice.item at in
       let cache_is : cache_of_items items2 moment choice.last_cas ≡ call.cache = ap (λ (l : List Item). cache_of_items l moment choice.last_cas) items_are ∙ stores.cache_is in
-      let noted_is : told2 ≡ behind call.entries told = noted ∙ ap (λ (l : List Entry). behind l told) stores.entries_are in
+      let noted_is : told2 ≡ with_more call.entries told = noted ∙ ap (λ (l : List Entry). with_more l told) stores.entries_are in
       let run = told_goes_on g before call.cache told call.entries was.run (λ h tells. store_goes g h before (desk_of items) id put (all_here items moment last put.key g.item_max own was.kept) (new h tells)) in
       record {
         answer = stores.answer_is;

@@ -12,7 +12,7 @@ use Rattle.flash_entry.specs.declared.entry.Entry.TheVariants as entries
 use Rattle.flash_machine.specs.Item as machine
 use Rattle.flash_machine.specs.Moments.{is_reached}
 use Rattle.flash_machine.specs.Cache.{Cache}
-use Rattle.flash_machine.specs.Storing.{refusal, stored_item, stored_or, store_step}
+use Rattle.flash_machine.specs.Storing.{refusal, stored_item, store_outcome, store_step}
 use Rattle.flash_core.specs.declared.item.Item.{Item}
 use Rattle.flash_core.specs.Items.{without, item_of, pair_of, items_of, keys_of, cache_of_items, HaveOwnKeys, HaveOwnNumbers, IsKept, AreKept}
 use Rattle.flash_core.specs.Places.{IsPlace, in_front}
@@ -58,7 +58,7 @@ module _ (items : List Item) (moment last : ℕ) (key : List ℕ) (item_max : �
   numbers_after true (Some i) above numbers = numbers-in_front item_max last i (without key items) (above i refl) (all-without (IsKept item_max last) key items kept) (numbers-without key items numbers)
   numbers_after false (Some i) above numbers = numbers-in_front item_max last i (without key items) (above i refl) (all-without (IsKept item_max last) key items kept) (numbers-without key items numbers)
 
-  -- an item in front of the others makes the map with it, whether the key's was swept before or not
+  -- an item before the others makes the map with it, whether the key's was swept before or not
   inserted : (dead : Bool) (i : Item) → i.key ≡ key → items_of (i ∷ without key items) ≡ finite.insert (items_of (swept_items dead key items)) key (item_of i)
   inserted false i named = items_of-in_front key i items named own
   inserted true i named =
@@ -74,8 +74,8 @@ module _ (items : List Item) (moment last : ℕ) (key : List ℕ) (item_max : �
 
   -- what a store leaves, as its refusal or its item says
   pub record Leaves (r : Option Stored) (new : machine.Item) (dead : Bool) (answer : Stored) (item : Option Item) (last2 : ℕ) : Type 0 where
-    pub answer_is : answer ≡ (stored_or r (swept_to dead) key new).0
-    pub cache_is : cache_of_items (stored_items dead item key items) moment last2 ≡ (stored_or r (swept_to dead) key new).1
+    pub answer_is : answer ≡ (store_outcome r (swept_to dead) key new).0
+    pub cache_is : cache_of_items (stored_items dead item key items) moment last2 ≡ (store_outcome r (swept_to dead) key new).1
     pub desk_is : desk_of (stored_items dead item key items) ≡ stored_desk r (desk_of (swept_items dead key items)) key
     pub named : (i : Item) → item ≡ Some i → i.key ≡ key
 
@@ -93,7 +93,7 @@ module _ (items : List Item) (moment last : ℕ) (key : List ℕ) (item_max : �
         cache_is =
             ap (λ (l : List Item). cache_of_items l moment last2) (front_items dead i)
             ∙ (λ j. record { items = inserted dead i named j; now = moment; last_cas = number j; flush_mark = 0; pending_flush = None })
-            ∙ ap (λ (it : machine.Item). (stored_or None (swept_to dead) key it).1) same;
+            ∙ ap (λ (it : machine.Item). (store_outcome None (swept_to dead) key it).1) same;
         desk_is = ap desk_of (front_items dead i) ∙ in_front_keys dead i named;
         named = λ j there. let one : i ≡ j = cc in subst (λ (k : Item). k.key ≡ key) one named;
       }
@@ -125,7 +125,7 @@ module _ (g : Geometry) (items : List Item) (moment last : ℕ) (put : Put) (ite
     pub entries_are : drop_of key dead ++ entries.Did id (deeds.Store put answer) ∷ [] ≡ call.entries
     pub named : (i : Item) → item ≡ Some i → i.key ≡ key
 
-  -- the call behind the sweep, by the live item that the code found
+  -- the call after the sweep, by the live item that the code found
   after_live : (id : Id) (dead : Bool) (live : Option machine.Item) (answer : Stored) (item : Option Item) (last2 : ℕ)
       → live ≡ finite.get (items_of (swept_items dead key items)) key
       → Chose (refusal g (cache_without_items moment last) put live) last key (stored_item (cache_without_items moment last) put put.mode live) answer item last2
@@ -151,6 +151,6 @@ module _ (g : Geometry) (items : List Item) (moment last : ℕ) (put : Put) (ite
       → ◌≡◌ {A = Chosen} (answer, (option_map pair_of item, last2)) (choice_of g moment last put (cached_item live))
       → StoresAs id dead answer item last2 (store_call g (cache_of_items items moment last) (desk_of items) id put)
   stores_as id dead place live answer item last2 at dead_at live_at chose =
-      let is_dead = dead_is items moment last key item_max own kept dead place at dead_at in
-      subst (λ (s : Call Bool). StoresAs id dead answer item last2 (store_after g s id put)) (sym (swept_call_is items moment last key item_max own kept dead is_dead))
+      let is_expired_item = dead_is items moment last key item_max own kept dead place at dead_at in
+      subst (λ (s : Call Bool). StoresAs id dead answer item last2 (store_after g s id put)) (sym (swept_call_is items moment last key item_max own kept dead is_expired_item))
       (after_live id dead (cached_item live) answer item last2 (live_is items moment last key item_max own kept dead place live at live_at) chose)

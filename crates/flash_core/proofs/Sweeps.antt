@@ -1,4 +1,4 @@
--- A sweep is legal, and behind it the key's live item is what the cache has under the key.
+-- A sweep is legal, and after it the key's live item is what the cache has under the key.
 use Rattle.std.proofs.Common.{◌≡◌, ℕ, Bool, true, false, ◌&&◌, not, List, [], ◌∷◌, ◌++◌, Option, None, Some, cond, if◌then◌else◌, refl, sym, ◌∙◌, ap, subst}
 use Rattle.std.specs.FinMap as finite
 use Rattle.std.proofs.lemmas.List.{append-nil}
@@ -9,7 +9,7 @@ use Rattle.flash_entry.specs.declared.entry.Entry.{Entry}
 use Rattle.flash_entry.specs.declared.entry.Entry.TheVariants as entries
 use Rattle.flash_machine.specs.Item.{Item}
 use Rattle.flash_machine.specs.Cache.{Cache}
-use Rattle.flash_machine.specs.Live.{is_dead, is_live, has_ended, where_passes, live_item}
+use Rattle.flash_machine.specs.Live.{is_expired_item, is_live, label_has_ended, passing_item, live_item}
 use Rattle.flash_machine.specs.Legal.{IsNew}
 use Rattle.flash_core.specs.Store.{Desk, Call}
 use Rattle.flash_core.specs.Calls.{is_dead_at, swept, sweep}
@@ -28,20 +28,20 @@ module _ (c : Cache) (desk : Desk) (key : List ℕ) where
   goes_by g h None true here is = absurd (cc is)
   goes_by g h (Some item) true here is = record { legal = ((item, here, is), tt); makes = refl }
 
-  live_step : (j : List Entry) (item : Item) (dead : Bool) (label : _) → is_dead c item ≡ dead → dead ≡ false → item.label ≡ label → label ≡ None → where_passes (is_live j c) (Some item) ≡ Some item
+  live_step : (j : List Entry) (item : Item) (dead : Bool) (label : _) → is_expired_item c item ≡ dead → dead ≡ false → item.label ≡ label → label ≡ None → passing_item (is_live j c) (Some item) ≡ Some item
   live_step j item dead label is alive at none =
-      let not_dead : is_dead c item ≡ false = is ∙ alive in
+      let not_dead : is_expired_item c item ≡ false = is ∙ alive in
       let here : item.label ≡ None = at ∙ none in
-      let no_end : has_ended j item.label ≡ false = ap (has_ended j) here in
-      let lives : is_live j c item ≡ true = ap (λ b. not b && not (has_ended j item.label)) not_dead ∙ ap (λ b. not false && not b) no_end in
+      let no_end : label_has_ended j item.label ≡ false = ap (label_has_ended j) here in
+      let lives : is_live j c item ≡ true = ap (λ b. not b && not (label_has_ended j item.label)) not_dead ∙ ap (λ b. not false && not b) no_end in
       ap (λ b. if b then Some item else None) lives
 
   live_by : (j : List Entry) (found : Option Item) (dead : Bool) → finite.get c.items key ≡ found → is_dead_at c found ≡ dead → IsHere c key
       → live_item j (swept c desk key dead).cache key ≡ finite.get (swept c desk key dead).cache.items key
-  live_by j found true here is plain = ap (where_passes (is_live j (swept c desk key true).cache)) (gone c key) ∙ sym (gone c key)
-  live_by j None false here is plain = ap (where_passes (is_live j c)) here ∙ sym here
+  live_by j found true here is plain = ap (passing_item (is_live j (swept c desk key true).cache)) (gone c key) ∙ sym (gone c key)
+  live_by j None false here is plain = ap (passing_item (is_live j c)) here ∙ sym here
   live_by j (Some item) false here is plain =
-      ap (where_passes (is_live j c)) here ∙ live_step j item false None is refl (plain item here) refl ∙ sym here
+      ap (passing_item (is_live j c)) here ∙ live_step j item false None is refl (plain item here) refl ∙ sym here
 
   new_by : (h : List Entry) (id : Id) (dead : Bool) → IsNew h id → IsNew (h ++ (swept c desk key dead).entries) id
   new_by h id true new = new_behind h id (entries.Dropped key drops.Dead ∷ []) new (tt, tt)

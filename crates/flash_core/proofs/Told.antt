@@ -1,6 +1,6 @@
 -- A store's journal goes on as a run.
 use Rattle.std.proofs.Common.{◌≡◌, List, ◌++◌, Option, None, Some, refl, sym, ◌∙◌, ap, subst}
-use Rattle.flash_names.specs.Told.{behind}
+use Rattle.flash_names.specs.Told.{with_more}
 use Rattle.flash_names.specs.declared.geometry.Geometry.{Geometry}
 use Rattle.flash_entry.specs.declared.entry.Entry.{Entry}
 use Rattle.flash_machine.specs.Cache.{Cache}
@@ -21,7 +21,7 @@ run_goes_on g h c next es run goes = record {
 }
 
 -- the same where the journal may tell nothing
-pub told_goes_on : (g : Geometry) (c next : Cache) (told : Option (List Entry)) (es : List Entry) → IsToldRun g c told → ((h : List Entry) → told ≡ Some h → Goes g h c es next) → IsToldRun g next (behind es told)
+pub told_goes_on : (g : Geometry) (c next : Cache) (told : Option (List Entry)) (es : List Entry) → IsToldRun g c told → ((h : List Entry) → told ≡ Some h → Goes g h c es next) → IsToldRun g next (with_more es told)
 told_goes_on g c next None es run goes = λ h told. absurd (cc told)
 told_goes_on g c next (Some h) es run goes = λ j told.
     let one : h ++ es ≡ j = cc in

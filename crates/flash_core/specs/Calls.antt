@@ -13,9 +13,9 @@ use Rattle.flash_entry.specs.declared.entry.Entry.{Entry}
 use Rattle.flash_entry.specs.declared.entry.Entry.TheVariants as entries
 use Rattle.flash_machine.specs.Item.{Item}
 use Rattle.flash_machine.specs.Cache.{Cache}
-use Rattle.flash_machine.specs.Live.{is_dead}
+use Rattle.flash_machine.specs.Live.{is_expired_item}
 use Rattle.flash_machine.specs.Storing.{refusal, store_step}
-use Rattle.flash_machine.specs.Looking.{seen_of, look_next, head_of_item}
+use Rattle.flash_machine.specs.Looking.{residence_of, look_next, head_of_item}
 use Rattle.flash_machine.specs.Steps.{clock_next}
 use Rattle.flash_core.specs.declared.found.Found.{Found}
 use Rattle.flash_core.specs.declared.found.Found.TheVariants as found
@@ -29,7 +29,7 @@ keys_without key (k ∷ ks) = if bytes_eq key k then ks else k ∷ keys_without 
 -- whether the item under the key is dead, if there is one
 abbrev pub is_dead_at : Cache → Option Item → Bool
 is_dead_at c None = false
-is_dead_at c (Some item) = is_dead c item
+is_dead_at c (Some item) = is_expired_item c item
 
 -- the entry of a key's item that is dropped because it is dead, if it is
 abbrev pub drop_of : List ℕ → Bool → List Entry
@@ -49,12 +49,12 @@ swept c desk key dead =
 abbrev pub sweep : Cache → Desk → List ℕ → Call Bool
 sweep c desk key = swept c desk key (is_dead_at c (finite.get c.items key))
 
--- the order after a store: a refusal leaves it, a stored item's key stands in front
+-- the order after a store: a refusal leaves it, a stored item's key is in front
 abbrev pub stored_desk : Option Stored → Desk → List ℕ → Desk
 stored_desk None desk key = record { hot = key ∷ keys_without key desk.hot }
 stored_desk (Some refusal) desk key = desk
 
--- a store behind the sweep
+-- a store after the sweep
 abbrev pub store_after : Geometry → Call Bool → Id → Put → Call Stored
 store_after g swept id put =
     let live = finite.get swept.cache.items put.key in
@@ -75,11 +75,11 @@ found_of c look None = found.Miss
 found_of c look (Some item) =
     if look.value then found.Here (record { head = head_of_item c look item; value = item.value }) else found.Head (head_of_item c look item)
 
--- a lookup behind the sweep
+-- a lookup after the sweep
 abbrev pub look_after : Call Bool → Id → List ℕ → Look → Call Found
 look_after swept id key look =
     let live = finite.get swept.cache.items key in record {
-      entries = swept.entries ++ entries.Looked id key look (seen_of live) ∷ [];
+      entries = swept.entries ++ entries.Looked id key look (residence_of live) ∷ [];
       cache = look_next swept.cache key look live;
       desk = swept.desk;
       answer = found_of swept.cache look live;

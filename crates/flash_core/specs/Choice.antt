@@ -35,7 +35,7 @@ choice_of g now last_cas put live =
     let c = cache_without_items now last_cas in
     chosen (refusal g c put live) last_cas (put.key, stored_item c put put.mode live)
 
--- the item behind a reference, where there is one
+-- the item that a reference names, where there is one
 abbrev pub cached_item : Option Item → Option machine.Item
 cached_item item = option_map item_of item
 

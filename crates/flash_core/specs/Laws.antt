@@ -17,7 +17,7 @@ use Rattle.flash_core.specs.Sound.{IsRun}
 abbrev pub IsHere : Cache → List ℕ → Type 0
 IsHere c key = (item : Item) → finite.get c.items key ≡ Some item → item.label ≡ None
 
--- the journal with the call's entries behind it is a run, which makes the cache that the call leaves
+-- the journal with the call's entries after it is a run, which makes the cache that the call leaves
 abbrev pub LeavesARun : {A : Type 0} → Geometry → List Entry → Call A → Type 0
 LeavesARun g h call = IsRun g call.cache (h ++ call.entries)
 

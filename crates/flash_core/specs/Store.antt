@@ -1,6 +1,6 @@
 -- What a store is, as its calls see it.
 use Rattle.std.specs.Prelude.{◌≡◌, ℕ, Bool, List, Option}
-use Rattle.flash_names.specs.Told.{behind}
+use Rattle.flash_names.specs.Told.{with_more}
 use Rattle.flash_names.specs.declared.geometry.Geometry.{Geometry}
 use Rattle.flash_entry.specs.declared.entry.Entry.{Entry}
 use Rattle.flash_machine.specs.Cache.{Cache}
@@ -30,7 +30,7 @@ pub record Call (A : Type 0) : Type 0 where
 -- a store after a call: nothing else changes, but for whether the journal is ready
 abbrev pub Becomes : {A : Type 0} → Store → Call A → Store → Type 0
 Becomes old call new =
-    new ≡ record old { told = behind call.entries old.told; ready = new.ready; cache = call.cache; desk = call.desk }
+    new ≡ record old { told = with_more call.entries old.told; ready = new.ready; cache = call.cache; desk = call.desk }
 
 -- a store that found no memory: nothing changes, but for whether the journal is ready
 abbrev pub Stays : Store → Store → Type 0

@@ -11,7 +11,7 @@ const LAST_MOMENT: u64 = 1 << 62;
 
 impl<J: Journal> Core<J> {
     /// Sets the moment to a clock's reading, in Unix seconds, where it is above the moment. A reading above
-    /// 2^62 counts as 2^62. Answers whether it rose. Want of memory comes only where the journal isn't ready,
+    /// 2^62 counts as 2^62. Answers whether it rose. Memory runs out only where the journal isn't ready,
     /// and changes nothing.
     pub fn clock(&mut self, reading: u64) -> Result<bool, AllocError>
         ensures ok { OnOk result (Becomes self.old (clock_call self.old.cache self.old.desk reading) self.new) }

@@ -1,4 +1,4 @@
-// The list of a store's items: the one stored last stands in front.
+// The list of a store's items: the one stored last is in front.
 ghost use Rattle.std.specs.Prelude.{◌≡◌, ◌<◌, ◌||◌, false, is_some, None, if◌then◌else◌, length, slice_get, vec_len, vec_capacity, position};
 ghost use Rattle.std.specs.Option.{ForSome, option_copied, option_and_then, option_map_or};
 ghost use Rattle.std.specs.Str.{bytes_eq};
@@ -9,7 +9,7 @@ ghost use Rattle.flash_core.specs.Places.{IsPlace, removed, in_front};
 use crate::item::Item;
 use flash_names::Key;
 
-// Where the first item with the key stands.
+// Where the first item with the key is.
 pub fn place_of(items: &[Item], key: &Key) -> Option<usize>
     ensures { IsPlace key.now items.now result }
 {

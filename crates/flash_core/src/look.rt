@@ -1,6 +1,6 @@
 ghost use Rattle.std.specs.Prelude.{◌≡◌, ℕ, ◌^◌, ◌<◌, ◌≤◌, false, length, slice_get, IfOk, IfSome, OnOk, OnErr, IsOk, IsTrue};
 ghost use Rattle.std.specs.Option.{ForSome, option_and_then, option_copied};
-ghost use Rattle.flash_machine.specs.Looking.{seen_of, left_to, renewed_to, head_of_item};
+ghost use Rattle.flash_machine.specs.Looking.{residence_of, left_to, deadline_after, head_of_item};
 ghost use Rattle.flash_core.specs.Calls.{found_of, look_call};
 ghost use Rattle.flash_core.specs.Choice.{cache_without_items, cached_item};
 ghost use Rattle.flash_core.specs.Items.{HasDeadline, HasHead, item_of};
@@ -14,13 +14,13 @@ use crate::item::Item;
 use crate::items::{dead_at, live_at, place_of};
 use crate::noting::{dropped, note_behind};
 use crate::state::Core;
-use flash_entry::{Head, Hit, Journal, Look, Note, Seen};
+use flash_entry::{Head, Hit, Journal, Look, Note, Residence};
 use flash_names::{Blob, Id, Key};
 use std::alloc::{AllocError, Global};
 
 impl<J: Journal> Core<J> {
     /// Looks a key up. A live item gets the renewed deadline, counts as fetched, and was accessed now. A dead
-    /// one is dropped first. Want of memory changes nothing, and doesn't come where the value isn't wanted and
+    /// one is dropped first. Where memory runs out nothing changes; it doesn't run out where the value isn't wanted and
     /// the journal is ready. `id` has to be new: its pass isn't 0, and each step of that pass in the journal has a
     /// smaller number, where the journal tells its entries.
     pub fn look(
@@ -41,7 +41,7 @@ impl<J: Journal> Core<J> {
         let dead = dead_at(&self.items, place, self.moment);
         let live = live_at(&self.items, place, dead);
         let found = found_at(alloc, self.moment, live, look)?;
-        let looked = Note::Looked(id, key, look, seen_at(live));
+        let looked = Note::Looked(id, key, look, residence_at(live));
         note_behind(&mut self.journal, dropped(key, dead), looked)?;
         remove_or_mark(&mut self.items, place, dead, look.renew, self.moment);
         Ok(found)
@@ -63,7 +63,7 @@ fn found_at(
     let Some(item) = live else {
         return Ok(Found::Miss);
     };
-    let head = head_of(moment, item, look.renew);
+    let head = geometry_of_line(moment, item, look.renew);
     if !look.value {
         return Ok(Found::Head(head));
     }
@@ -72,7 +72,7 @@ fn found_at(
 }
 
 // What is told of an item without its value: the deadline after the lookup, and the rest from before it.
-fn head_of(moment: u64, item: &Item, renew: Option<i64>) -> Head
+fn geometry_of_line(moment: u64, item: &Item, renew: Option<i64>) -> Head
     requires moment { moment ≤ 2 ^ 62 }
     requires kept { HasHead item.now }
     ensures { (look : Look) → look.renew ≡ renew → result ≡ head_of_item (cache_without_items moment 0) look (item_of item.now) }
@@ -91,7 +91,7 @@ fn head_of(moment: u64, item: &Item, renew: Option<i64>) -> Head
 fn renewed_at(moment: u64, deadline: Option<u64>, renew: Option<i64>) -> Option<u64>
     requires moment { moment ≤ 2 ^ 62 }
     requires below { ForSome deadline (λ d. d < 2 ^ 63) }
-    ensures exact { result ≡ renewed_to renew deadline moment }
+    ensures exact { result ≡ deadline_after renew deadline moment }
     ensures below { IfSome result (λ d. d < 2 ^ 63) }
 {
     match renew {
@@ -112,12 +112,12 @@ fn left_of(deadline: Option<u64>, moment: u64) -> i64
 }
 
 // What the journal is told of the live item.
-fn seen_at(live: Option<&Item>) -> Seen
-    ensures { result ≡ seen_of (cached_item (option_copied live.entry)) }
+fn residence_at(live: Option<&Item>) -> Residence
+    ensures { result ≡ residence_of (cached_item (option_copied live.entry)) }
 {
     match live {
-        None => Seen::Nothing,
-        Some(item) => Seen::Here(item.cas),
+        None => Residence::Nothing,
+        Some(item) => Residence::Here(item.cas),
     }
 }
 

@@ -1,6 +1,6 @@
-// What a call notes: its entry, and in front of it the drop of a dead item.
+// What a call notes: its entry, and before it the drop of a dead item.
 ghost use Rattle.std.specs.Prelude.{◌≡◌, ◌∷◌, [], ◌++◌, OnOk, OnErr, IsTrue, IsOk};
-ghost use Rattle.flash_names.specs.Told.{behind};
+ghost use Rattle.flash_names.specs.Told.{with_more};
 ghost use Rattle.flash_entry.specs.Noted.{entry_of, entry_if};
 ghost use Rattle.flash_core.specs.Calls.{drop_of};
 
@@ -19,13 +19,13 @@ pub fn dropped(key: &Key, dead: bool) -> Option<Note<'_>>
     }
 }
 
-// Notes an entry, and another in front of it if there is one.
+// Notes an entry, and another before it if there is one.
 pub fn note_behind<J: Journal>(
     journal: &mut J,
     first: Option<Note<'_>>,
     last: Note<'_>,
 ) -> Result<(), AllocError>
-    ensures noted { OnOk result (J.told journal.new ≡ behind (entry_if first.entry ++ entry_of last.entry ∷ []) (J.told journal.old)) }
+    ensures noted { OnOk result (J.told journal.new ≡ with_more (entry_if first.entry ++ entry_of last.entry ∷ []) (J.told journal.old)) }
     ensures refused { OnErr result (J.told journal.new ≡ J.told journal.old) }
     ensures ready { IsTrue (J.ready journal.old) → IsOk result × IsTrue (J.ready journal.new) }
 {

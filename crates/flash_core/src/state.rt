@@ -1,6 +1,6 @@
 ghost use Rattle.std.specs.Prelude.{◌≡◌, [], IfOk, IfErr, IsTrue};
 ghost use Rattle.std.specs.Option.{ForSome};
-ghost use Rattle.flash_names.specs.Geometry.{Passes, checked};
+ghost use Rattle.flash_names.specs.Geometry.{Passes, check_result};
 ghost use Rattle.flash_machine.specs.Cache.{first_cache};
 ghost use Rattle.flash_core.specs.Open.{IsRefusedFor};
 ghost use Rattle.flash_core.specs.Sound.{IsToldRun};
@@ -49,7 +49,7 @@ impl<J: Journal> Model for Core<J> {
 pub enum OpenWhy {
     /// The number of the first rule that the geometry breaks.
     BadGeometry(u32),
-    /// Want of memory. Opening a store takes none today, so that it doesn't come.
+    /// Memory ran out. Opening a store takes none today, so that it doesn't come.
     NoMemory,
 }
 
@@ -76,7 +76,7 @@ impl<J: Journal> Core<J> {
           desk = record { hot = [] };
         }) }
         ensures passes { IfOk result (λ _. Passes geometry) }
-        ensures broken { IfErr (checked geometry) (λ bad. IfErr result (λ error. error.why ≡ OpenWhy.BadGeometry bad.rule)) }
+        ensures broken { IfErr (check_result geometry) (λ bad. IfErr result (λ error. error.why ≡ OpenWhy.BadGeometry bad.rule)) }
         ensures refused { IfErr result (λ error. IsRefusedFor geometry error.why × (error.journal ≡ journal)) }
     {
         if let Err(BadGeometry { rule }) = geometry.check() {

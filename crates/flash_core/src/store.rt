@@ -13,7 +13,7 @@ use std::alloc::{AllocError, Global};
 
 impl<J: Journal> Core<J> {
     /// Stores a value, or answers the first refusal: by the mode, the CAS number given, the value's size, and
-    /// the last CAS number. A dead item under the key is dropped first. Want of memory changes nothing. `id` has to
+    /// the last CAS number. A dead item under the key is dropped first. Where memory runs out nothing changes. `id` has to
     /// be new: its pass isn't 0, and each step of that pass in the journal has a smaller number, where the journal
     /// tells its entries.
     pub fn store(&mut self, alloc: Global, id: Id, put: &Put) -> Result<Stored, AllocError>

@@ -1,5 +1,5 @@
 -- The rows of the tables are held against the definition by computing: each is the row before it with eight
--- steps more, where the numbers from 0 on stand before the first.
+-- steps more, where the numbers from 0 on are before the first.
 use Rattle.std.proofs.Common.{◌≡◌, ℕ, zero, suc, ◌+◌, ◌*◌, ◌<◌, Bool, true, false, ◌&&◌, nat_eq, List, [], ◌∷◌, length, get_or, refl, sym, ap, ◌∙◌, arith}
 use Rattle.std.proofs.lemmas.Bool.{and_parts, eqb-true}
 use Rattle.flash_crc.specs.Crc32c.{after_bits}

@@ -44,7 +44,7 @@ at_once r (byte ∷ rest) each =
     ∙ sym (in_turn 8 n (bit_xor r (high * 256 + byte)))
     ∙ ap (λ (k : ℕ). after_bits k (bit_xor r (high * 256 + byte))) count
 
--- each byte by itself, with zero bytes in place of those behind it
+-- each byte by itself, with zero bytes in place of those after it
 abbrev pub apart : ℕ → List ℕ → ℕ
 apart gap [] = 0
 apart gap (byte ∷ rest) = bit_xor (after_bits (8 * (gap + length rest) + 8) byte) (apart gap rest)
@@ -95,7 +95,7 @@ word_apart zeros word fits =
 regroup : (a b c d e f g h : ℕ) → bit_xor (bit_xor (bit_xor a b) (bit_xor c d)) (bit_xor (bit_xor e f) (bit_xor g h)) ≡ bit_xor a (bit_xor b (bit_xor c (bit_xor d (bit_xor e (bit_xor f (bit_xor g (bit_xor h 0)))))))
 regroup a b c d e f g h = simp (xor_assoc, xor_zero_r)
 
--- the same from what stands in the tables
+-- the same from what is in the tables
 pub word_from : (zeros word : ℕ) (bytes : List ℕ) → word < 2 ^ 64 → bytes ≡ to_le_bytes w64 word → (a b c d e f g h : ℕ) → a ≡ after_bits (8 * (zeros + 7) + 8) (get_or bytes 0 0) → b ≡ after_bits (8 * (zeros + 6) + 8) (get_or bytes 1 0) → c ≡ after_bits (8 * (zeros + 5) + 8) (get_or bytes 2 0) → d ≡ after_bits (8 * (zeros + 4) + 8) (get_or bytes 3 0) → e ≡ after_bits (8 * (zeros + 3) + 8) (get_or bytes 4 0) → f ≡ after_bits (8 * (zeros + 2) + 8) (get_or bytes 5 0) → g ≡ after_bits (8 * (zeros + 1) + 8) (get_or bytes 6 0) → h ≡ after_bits (8 * zeros + 8) (get_or bytes 7 0)
     → bit_xor (bit_xor (bit_xor a b) (bit_xor c d)) (bit_xor (bit_xor e f) (bit_xor g h)) ≡ after_bits (8 * zeros + 64) word
 word_from zeros word bytes fits is a b c d e f g h a_is b_is c_is d_is e_is f_is g_is h_is =
@@ -138,7 +138,7 @@ two_words r bytes size each =
     ∙ ap (bit_xor (after_bits 128 (bit_xor first r))) back_is
     ∙ xor_comm (after_bits 128 (bit_xor first r)) (after_bits 64 second)
 
--- whole blocks, and then the bytes behind them
+-- whole blocks, and then the bytes after them
 pub blocks_joined : (r k : ℕ) (bytes : List ℕ) → remainder (fold remainder r (first_chunks 16 k bytes)) (drop (k * 16) bytes) ≡ remainder r bytes
 blocks_joined r zero bytes = refl
 blocks_joined r (suc k) bytes =

@@ -40,7 +40,7 @@ fn word(block: &[u8; 16], at: usize) -> u64
     ])
 }
 
-// The remainder of the eight bytes of this number, the lowest first, with so many zero bytes behind them.
+// The remainder of the eight bytes of this number, the lowest first, with so many zero bytes after them.
 #[inline(always)]
 fn remainder_of_word(word: u64, zeros: usize) -> u32
     requires { zeros + 8 ≤ 16 }

@@ -39,7 +39,7 @@ impl Crc {
         }
     }
 
-    /// Takes these bytes behind those that were fed before.
+    /// Takes these bytes after those that were fed before.
     pub fn feed(&mut self, bytes: &[u8])
         ensures exact { self.new ≡ remainder self.old bytes.now }
         ensures behind { (fed : List ℕ) → self.old ≡ remainder all_ones fed → self.new ≡ remainder all_ones (fed ++ bytes.now) }

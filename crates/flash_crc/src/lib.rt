@@ -1,4 +1,4 @@
-//! The checksum of a record: CRC-32C (Castagnoli) of RFC 3720, section 12.1; examples stand in its appendix
+//! The checksum of a record: CRC-32C (Castagnoli) of RFC 3720, section 12.1; examples are in its appendix
 //! B.4.
 #![tactic(auto)]
 

@@ -1,7 +1,7 @@
 ghost use Rattle.std.specs.Prelude.{◌≡◌, ◌+◌, ◌*◌, ◌<◌};
 ghost use Rattle.flash_crc.specs.Crc32c.{after_bits};
 
-/// The remainder of this byte with so many zero bytes behind it.
+/// The remainder of this byte with so many zero bytes after it.
 #[inline(always)]
 pub fn remainder_of(byte: u8, zeros: usize) -> u32
     requires { zeros < 16 }
@@ -10,7 +10,7 @@ pub fn remainder_of(byte: u8, zeros: usize) -> u32
     TABLES[zeros][byte as usize]
 }
 
-// Row k has at n the remainder of the byte n with k zero bytes behind it.
+// Row k has at n the remainder of the byte n with k zero bytes after it.
 static TABLES: [[u32; 256]; 16] = [
     [
         0x00000000, 0xf26b8303, 0xe13b70f7, 0x1350f3f4, 0xc79a971f, 0x35f1141c, 0x26a1e7e8,

@@ -1,3 +1,3 @@
-mod HeadWords
+mod GeometryLineWords
 mod ReadBack
 mod WordLemmas

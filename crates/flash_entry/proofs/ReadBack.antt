@@ -3,9 +3,9 @@ use Rattle.std.proofs.Common.{◌≡◌, ℕ, ◌^◌, List, [], ◌∷◌, map,
 use Rattle.std.specs.Option.{option_and_then}
 use Rattle.flash_names.specs.declared.geometry.Geometry.{Geometry}
 use Rattle.flash_names.specs.Words.{words}
-use Rattle.flash_entry.specs.Head.{head_of_words, head_text, geometry_from, kept_rules, checked_geometry}
-use Rattle.flash_entry.specs.HeadLaws.{FitsFields, HeadsAreReadBack}
-use Rattle.flash_entry.proofs.HeadWords.{AllBelow, words-with_numbers, numbers_of-decimals, if_below-small}
+use Rattle.flash_entry.specs.GeometryLine.{geometry_of_words, geometry_words, geometry_from, geometry_by_rules, checked_geometry}
+use Rattle.flash_entry.specs.GeometryLineLaws.{FitsFields, GeometryLinesAreReadBack}
+use Rattle.flash_entry.proofs.GeometryLineWords.{AllBelow, words-with_numbers, numbers_of-decimals, if_below-small}
 
 -- the numbers of a geometry in the order of its fields
 abbrev fields : Geometry → List ℕ
@@ -45,7 +45,7 @@ fields_below g fits = (
   ),
 )
 
-words_of_head : (g : Geometry) → FitsFields g → words (head_text g) ≡ codes "store" ∷ map decimal (fields g)
+words_of_head : (g : Geometry) → FitsFields g → words (geometry_words g) ≡ codes "store" ∷ map decimal (fields g)
 words_of_head g fits = words-with_numbers (codes "store") (fields g) (fields_below g fits)
 
 geometry_of_fields : (g : Geometry) → FitsFields g → geometry_from (fields g) ≡ Some g
@@ -65,9 +65,9 @@ geometry_of_fields g fits =
       below g.recache fits.recache,
     ) refl
 
-pub read_back : HeadsAreReadBack
+pub read_back : GeometryLinesAreReadBack
 read_back g fits passes =
-    ap head_of_words (words_of_head g fits)
+    ap geometry_of_words (words_of_head g fits)
     ∙ ap (λ ns. checked_geometry (option_and_then geometry_from ns)) (numbers_of-decimals (fields g) (fields_below g fits))
     ∙ ap checked_geometry (geometry_of_fields g fits)
-    ∙ ap (kept_rules g) passes
+    ∙ ap (geometry_by_rules g) passes

@@ -17,8 +17,8 @@ use Rattle.flash_entry.specs.declared.found.Cause.{Cause}
 use Rattle.flash_entry.specs.declared.found.Cause.TheVariants as causes
 use Rattle.flash_entry.specs.declared.entry.Done.{Done}
 use Rattle.flash_entry.specs.declared.entry.Done.TheVariants as deeds
-use Rattle.flash_entry.specs.declared.entry.Seen.{Seen}
-use Rattle.flash_entry.specs.declared.entry.Seen.TheVariants as seen
+use Rattle.flash_entry.specs.declared.entry.Residence.{Residence}
+use Rattle.flash_entry.specs.declared.entry.Residence.TheVariants as residence
 use Rattle.flash_entry.specs.declared.entry.Close.{Close}
 use Rattle.flash_entry.specs.declared.entry.Close.TheVariants as closes
 use Rattle.flash_entry.specs.declared.entry.DropCause.{DropCause}
@@ -78,31 +78,34 @@ create_text (Some create) = signed create.exptime ++ number create.start
 abbrev pub direction_word : Bool → List ℕ
 direction_word down = if down then codes "down" else codes "up"
 
--- a command's step: what was asked, and behind the sign of equality what was answered
+-- a command's step: what was asked, and after the sign of equality what was answered
 abbrev pub done_text : Done → List ℕ
 done_text (deeds.Store put answer) =
-    word (mode_word put.mode) ++ hexadecimal put.key ++ number put.flags ++ signed put.exptime ++ number_if put.compare ++ hexadecimal put.value
+    word (mode_word put.mode) ++ hexadecimal put.key ++ number put.flags ++ signed put.exptime
+    ++ number_if put.compare ++ hexadecimal put.value
     ++ word (codes "=") ++ stored_text answer
 done_text (deeds.Delete key compare answer) =
     word (codes "delete") ++ hexadecimal key ++ number_if compare ++ word (codes "=") ++ word (gone_word answer)
 done_text (deeds.Sum ask answer) =
-    word (direction_word ask.down) ++ hexadecimal ask.key ++ number ask.delta ++ number_if ask.compare ++ signed_if ask.renew ++ create_text ask.create
+    word (direction_word ask.down) ++ hexadecimal ask.key ++ number ask.delta ++ number_if ask.compare
+    ++ signed_if ask.renew ++ create_text ask.create
     ++ word (codes "=") ++ sum_text answer
 done_text (deeds.Touch key exptime answer) =
     word (codes "touch") ++ hexadecimal key ++ signed exptime ++ word (codes "=") ++ word (touched_word answer)
 done_text (deeds.Flush delay) = word (codes "flush") ++ signed delay ++ word (codes "=") ++ word (codes "ok")
 done_text (deeds.Stats tally) =
-    word (codes "stats") ++ word (codes "=") ++ number tally.items ++ number tally.load ++ number tally.last_cas ++ number tally.now ++ number tally.free_pages
+    word (codes "stats") ++ word (codes "=") ++ number tally.items ++ number tally.load ++ number tally.last_cas
+    ++ number tally.now ++ number tally.free_pages
 
 -- whether a lookup wants the value or the head alone
 abbrev pub wanted_word : Bool → List ℕ
 wanted_word value = if value then codes "v" else codes "h"
 
 -- where a lookup found the value: nowhere, in memory or on a page
-abbrev pub seen_text : Seen → List ℕ
-seen_text seen.Nothing = word (codes "none")
-seen_text (seen.Here cas) = number cas ++ word (codes "here")
-seen_text (seen.Away cas label) = number cas ++ label_text label
+abbrev pub residence_text : Residence → List ℕ
+residence_text residence.Nothing = word (codes "none")
+residence_text (residence.Here cas) = number cas ++ word (codes "here")
+residence_text (residence.Away cas label) = number cas ++ label_text label
 
 -- why an item that was found could not be answered
 abbrev pub cause_word : Cause → List ℕ
@@ -151,11 +154,13 @@ kind_word (entries.Opened _) = codes "opened"
 kind_word (entries.Ended _ _) = codes "ended"
 kind_word (entries.Freed _) = codes "freed"
 
--- the words behind it
+-- the words after it
 abbrev pub entry_rest : Entry → List ℕ
 entry_rest (entries.Clock moment) = number moment
 entry_rest (entries.Did id done) = id_text id ++ done_text done
-entry_rest (entries.Looked id key look answer) = id_text id ++ hexadecimal key ++ word (wanted_word look.value) ++ signed_if look.renew ++ word (codes "=") ++ seen_text answer
+entry_rest (entries.Looked id key look answer) =
+    id_text id ++ hexadecimal key ++ word (wanted_word look.value) ++ signed_if look.renew ++ word (codes "=")
+    ++ residence_text answer
 entry_rest (entries.FromBuffer id place) = id_text id ++ place_text place
 entry_rest (entries.ReadBegan id place reader) = id_text id ++ place_text place ++ number reader
 entry_rest (entries.ReadEnded id bytes) = id_text id ++ bytes_text bytes

@@ -1,5 +1,5 @@
 pub mod EntryText
-pub mod Head
-pub mod HeadLaws
+pub mod GeometryLine
+pub mod GeometryLineLaws
 pub mod Noted
 pub mod Text

@@ -32,7 +32,7 @@ close_of (close_notes.Lost cause) = closes.Lost cause
 abbrev pub entry_of : Note → Entry
 entry_of (notes.Clock moment) = entries.Clock moment
 entry_of (notes.Did id done) = entries.Did id (done_of done)
-entry_of (notes.Looked id key look seen) = entries.Looked id key.now look seen
+entry_of (notes.Looked id key look residence) = entries.Looked id key.now look residence
 entry_of (notes.FromBuffer id place) = entries.FromBuffer id place
 entry_of (notes.ReadBegan id place reader) = entries.ReadBegan id place reader
 entry_of (notes.ReadEnded id bytes) = entries.ReadEnded id (option_map (λ b. b.now) bytes)
@@ -51,5 +51,5 @@ abbrev pub entry_if : Option Note → List Entry
 entry_if note = option_to_list (option_map entry_of note)
 
 -- the entries of up to four notes, in order
-abbrev pub noted : Note → Option Note → Option Note → Option Note → List Entry
-noted first second third fourth = entry_of first ∷ (entry_if second ++ (entry_if third ++ entry_if fourth))
+abbrev pub entries_of_notes : Note → Option Note → Option Note → Option Note → List Entry
+entries_of_notes first second third fourth = entry_of first ∷ (entry_if second ++ (entry_if third ++ entry_if fourth))

@@ -6,7 +6,7 @@ use Rattle.flash_names.specs.declared.place.Label.{Label}
 use Rattle.flash_names.specs.declared.place.Place.{Place}
 use Rattle.flash_names.specs.declared.place.Id.{Id}
 
--- a word with the space in front of it
+-- a word with the space before it
 abbrev pub word : List ℕ → List ℕ
 word bytes = 32 ∷ bytes
 

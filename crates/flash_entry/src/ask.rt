@@ -9,9 +9,9 @@ pub enum Mode {
     Add,
     /// Only where something is there.
     Replace,
-    /// Behind the value that is there, whose flags and deadline stay.
+    /// After the value that is there, whose flags and deadline stay.
     Append,
-    /// In front of the value that is there, whose flags and deadline stay.
+    /// Before the value that is there, whose flags and deadline stay.
     Prepend,
 }
 

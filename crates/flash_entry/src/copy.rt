@@ -7,7 +7,7 @@ use flash_names::Blob;
 use std::alloc::{AllocError, Global};
 
 impl Put {
-    /// A second one with the same fields, or want of memory for its value.
+    /// A second one with the same fields, or an error where memory runs out for its value.
     pub fn copy(&self, alloc: Global) -> Result<Put, AllocError>
         ensures { IfOk result (λ put. put ≡ self.now) }
     {
@@ -39,7 +39,7 @@ impl Arith {
 }
 
 impl DoneNote<'_> {
-    /// The step with what it refers to, or want of memory for a value.
+    /// The step with what it refers to, or an error where memory runs out for a value.
     pub fn to_done(&self, alloc: Global) -> Result<Done, AllocError>
         ensures { IfOk result (λ done. done ≡ done_of self.now) }
     {
@@ -55,7 +55,7 @@ impl DoneNote<'_> {
 }
 
 impl CloseNote<'_> {
-    /// The close with what it refers to, or want of memory for a value.
+    /// The close with what it refers to, or an error where memory runs out for a value.
     pub fn to_close(&self, alloc: Global) -> Result<Close, AllocError>
         ensures { IfOk result (λ close. close ≡ close_of self.now) }
     {
@@ -70,14 +70,19 @@ impl CloseNote<'_> {
 }
 
 impl Note<'_> {
-    /// The entry with what the note refers to, or want of memory for a value or for bytes.
+    /// The entry with what the note refers to, or an error where memory runs out for a value or for bytes.
     pub fn to_entry(&self, alloc: Global) -> Result<Entry, AllocError>
         ensures { IfOk result (λ entry. entry ≡ entry_of self.now) }
     {
         Ok(match self {
             Note::Clock(moment) => Entry::Clock(*moment),
             Note::Did(id, done) => Entry::Did(*id, done.to_done(alloc)?),
-            Note::Looked(id, key, look, seen) => Entry::Looked(*id, key.copy(), *look, *seen),
+            Note::Looked(id, key, look, residence) => Entry::Looked(
+                *id,
+                key.copy(),
+                *look,
+                *residence,
+            ),
             Note::FromBuffer(id, place) => Entry::FromBuffer(*id, *place),
             Note::ReadBegan(id, place, reader) => Entry::ReadBegan(*id, *place, *reader),
             Note::ReadEnded(id, bytes) => Entry::ReadEnded(*id, blob_if(alloc, *bytes)?),

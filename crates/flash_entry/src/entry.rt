@@ -20,7 +20,7 @@ pub enum Done {
 
 /// Where a lookup found the value.
 #[derive(Clone, Copy, Debug, PartialEq, Eq)]
-pub enum Seen {
+pub enum Residence {
     /// No live item.
     Nothing,
     /// An item of this CAS number with its value in memory.
@@ -70,7 +70,7 @@ pub enum Entry {
     /// A command's step was done.
     Did(Id, Done),
     /// A key was looked up.
-    Looked(Id, Key, Look, Seen),
+    Looked(Id, Key, Look, Residence),
     /// A lookup's value was read from a write buffer.
     FromBuffer(Id, Place),
     /// A read of the device began, made by the pass of this number.

@@ -59,7 +59,7 @@ pub enum Outcome {
 
 /// What a lookup found, as a session is told it.
 #[derive(Debug, Drop)]
-pub enum Found2 {
+pub enum LookAnswer {
     /// No live item is under the key.
     Miss,
     /// An item, where the head alone was wanted.
@@ -72,7 +72,7 @@ pub enum Found2 {
 #[derive(Debug, Drop)]
 pub enum Told {
     /// What a lookup found.
-    Found(Found2),
+    Found(LookAnswer),
     /// The answer to a `Put`.
     Stored(Stored),
     /// The answer to a delete.

@@ -1,9 +1,9 @@
 ghost use Rattle.std.specs.Prelude.{◌≡◌, ℕ, ◌+◌, ◌-◌, ◌^◌, ◌<◌, ◌≤◌, min, Bool, true, false, List, [], ◌∷◌, ◌++◌, length, vec_len, vec_capacity, Option, Some, None, IsTrue, IsOk, IfOk, OnOk, OnErr, refl};
 ghost use Rattle.std.specs.Option.{option_to_list};
 ghost use Rattle.std.proofs.Common.{rules};
-ghost use Rattle.flash_names.specs.Told.{behind};
+ghost use Rattle.flash_names.specs.Told.{with_more};
 ghost use Rattle.flash_entry.specs.declared.entry.Entry.{Entry};
-ghost use Rattle.flash_entry.specs.Noted.{noted, entry_if};
+ghost use Rattle.flash_entry.specs.Noted.{entries_of_notes, entry_if};
 
 use crate::{Entry, Note};
 use std::alloc::{AllocError, Global};
@@ -29,7 +29,8 @@ pub trait Journal {
         third: Option<Note<'_>>,
         fourth: Option<Note<'_>>,
     ) -> Result<(), AllocError>
-        ensures noted { OnOk result (told self.new ≡ behind (noted first.entry second.entry third.entry fourth.entry) (told self.old)) }
+        ensures noted { OnOk result (told self.new
+            ≡ with_more (entries_of_notes first.entry second.entry third.entry fourth.entry) (told self.old)) }
         ensures refused { OnErr result (told self.new ≡ told self.old) }
         ensures ready { IsTrue (ready self.old) → IsOk result × IsTrue (ready self.new) };
 
@@ -143,12 +144,11 @@ impl Journal for Counted {
         third: Option<Note<'_>>,
         fourth: Option<Note<'_>>,
     ) -> Result<(), AllocError>
-        ensures noted { OnOk result (None ≡ behind (noted _first.entry second.entry third.entry fourth.entry) None) }
-        ensures refused { OnErr result (◌≡◌ {A = Option (List Entry)} None None) }
         ensures ready { IsTrue true → IsOk result × IsTrue true }
 
         // Each entry counts once.
-        ensures counted { self.new ≡ min (self.old + length (noted _first.entry second.entry third.entry fourth.entry)) (2 ^ 64 - 1) }
+        ensures counted { self.new ≡ min
+            (self.old + length (entries_of_notes _first.entry second.entry third.entry fourth.entry)) (2 ^ 64 - 1) }
     {
         let more = 1 + count_if(&second) + count_if(&third) + count_if(&fourth);
         self.entries = self.entries.saturating_add(more);

@@ -6,7 +6,7 @@ mod ask;
 mod copy;
 mod entry;
 mod found;
-mod head;
+mod geometry_line;
 mod journal;
 mod laws;
 mod note;
@@ -16,11 +16,11 @@ mod words;
 
 pub use answer::{Gone, Stored, Sum, Summed, Tally, Touched};
 pub use ask::{Arith, Ask, Create, Look, Mode, Put};
-pub use entry::{Close, Done, DropCause, EndCause, Entry, Seen};
-pub use found::{Cause, Closed, Found2, Head, Hit, Outcome, Told};
-pub use head::{HeadFault, print_head, read_head};
+pub use entry::{Close, Done, DropCause, EndCause, Entry, Residence};
+pub use found::{Cause, Closed, Head, Hit, LookAnswer, Outcome, Told};
+pub use geometry_line::{HeadFault, print_head, read_head};
 pub use journal::{Counted, Journal, Kept};
-pub use laws::heads_are_read_back;
+pub use laws::geometry_lines_are_read_back;
 pub use note::{CloseNote, DoneNote, Note};
 pub use print::print_entry;
 

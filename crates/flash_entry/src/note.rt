@@ -1,5 +1,5 @@
 use crate::{
-    Arith, Cause, DropCause, EndCause, Gone, Hit, Look, Put, Seen, Stored, Sum, Tally, Touched,
+    Arith, Cause, DropCause, EndCause, Gone, Hit, Look, Put, Residence, Stored, Sum, Tally, Touched,
 };
 use flash_names::{Id, Key, Label, Place};
 
@@ -37,7 +37,7 @@ pub enum Note<'a> {
     /// `Entry::Did`, with the step and its answer.
     Did(Id, DoneNote<'a>),
     /// `Entry::Looked`, with what was asked and where the value was found.
-    Looked(Id, &'a Key, Look, Seen),
+    Looked(Id, &'a Key, Look, Residence),
     /// `Entry::FromBuffer`, with the value's place.
     FromBuffer(Id, Place),
     /// `Entry::ReadBegan`, with the place and the number of the pass that reads.

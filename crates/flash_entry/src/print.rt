@@ -1,9 +1,9 @@
 ghost use Rattle.std.specs.Prelude.{◌≡◌, ◌++◌, IfOk, OnOk};
-ghost use Rattle.flash_entry.specs.EntryText.{entry_line, entry_rest, done_text, stored_text, summed_text, sum_text, create_text, seen_text, close_text, bytes_text};
+ghost use Rattle.flash_entry.specs.EntryText.{entry_line, entry_rest, done_text, stored_text, summed_text, sum_text, create_text, residence_text, close_text, bytes_text};
 
 use crate::text::Text;
 use crate::{
-    Arith, Close, Create, Done, Entry, Look, Put, Seen, Stored, Sum, Summed, Tally, words,
+    Arith, Close, Create, Done, Entry, Look, Put, Residence, Stored, Sum, Summed, Tally, words,
 };
 use flash_names::{Blob, Id, Key, Label, Place};
 use std::alloc::{AllocError, Global};
@@ -25,7 +25,7 @@ fn print_rest(line: &mut Text, entry: &Entry) -> Result<(), AllocError>
     match entry {
         Entry::Clock(moment) => line.number(*moment),
         Entry::Did(id, done) => print_did(line, *id, done),
-        Entry::Looked(id, key, look, seen) => print_looked(line, *id, key, *look, *seen),
+        Entry::Looked(id, key, look, residence) => print_looked(line, *id, key, *look, *residence),
         Entry::FromBuffer(id, place) => {
             line.id(*id)?;
             line.place(*place)
@@ -68,16 +68,16 @@ fn print_looked(
     id: Id,
     key: &Key,
     look: Look,
-    seen: Seen,
+    residence: Residence,
 ) -> Result<(), AllocError>
-    ensures { OnOk result (line.new ≡ line.old ++ entry_rest (Entry.Looked id key.now look seen)) }
+    ensures { OnOk result (line.new ≡ line.old ++ entry_rest (Entry.Looked id key.now look residence)) }
 {
     line.id(id)?;
     line.hexadecimal(key.bytes())?;
     line.word(words::wanted_text(look.value))?;
     line.signed_if(look.renew)?;
     line.word(b"=")?;
-    print_seen(line, seen)
+    print_residence(line, residence)
 }
 
 fn print_read_began(line: &mut Text, id: Id, place: Place, reader: u32) -> Result<(), AllocError>
@@ -236,16 +236,16 @@ fn print_stats(line: &mut Text, tally: Tally) -> Result<(), AllocError>
     line.number(tally.free_pages)
 }
 
-fn print_seen(line: &mut Text, seen: Seen) -> Result<(), AllocError>
-    ensures { OnOk result (line.new ≡ line.old ++ seen_text seen) }
+fn print_residence(line: &mut Text, residence: Residence) -> Result<(), AllocError>
+    ensures { OnOk result (line.new ≡ line.old ++ residence_text residence) }
 {
-    match seen {
-        Seen::Nothing => line.word(b"none"),
-        Seen::Here(cas) => {
+    match residence {
+        Residence::Nothing => line.word(b"none"),
+        Residence::Here(cas) => {
             line.number(cas)?;
             line.word(b"here")
         }
-        Seen::Away(cas, label) => {
+        Residence::Away(cas, label) => {
             line.number(cas)?;
             line.label(label)
         }

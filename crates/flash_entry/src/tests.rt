@@ -134,8 +134,8 @@ fn prints_lookups(rt: HostRuntime) -> Result<(), Fail> {
         value: false,
         renew: Some(9),
     };
-    let here = Entry::Looked(ID, key()?, look, Seen::Here(1));
-    let away = Entry::Looked(ID, key()?, renewing, Seen::Away(1, LABEL));
+    let here = Entry::Looked(ID, key()?, look, Residence::Here(1));
+    let away = Entry::Looked(ID, key()?, renewing, Residence::Away(1, LABEL));
     let ended = Entry::ReadEnded(ID, Some(Blob::from_slice(alloc, b"\x00\x0f")?));
     let hit = Entry::Closed(ID, Close::Hit(1, 2, Blob::from_slice(alloc, b"")?));
     let lost = Entry::Closed(ID, Close::Lost(Cause::Damaged));

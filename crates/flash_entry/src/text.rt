@@ -6,7 +6,7 @@ use itoa::Buffer;
 use std::alloc::{AllocError, Global};
 use std::marker::Model;
 
-// A line that is written word by word. Each method but `push` and `end_line` puts a space in front of its words.
+// A line that is written word by word. Each method but `push` and `end_line` puts a space before its words.
 #[derive(Drop)]
 pub struct Text {
     alloc: Global,

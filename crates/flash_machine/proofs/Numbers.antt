@@ -19,8 +19,8 @@ use Rattle.flash_entry.specs.declared.entry.Entry.TheVariants as entries
 use Rattle.flash_machine.specs.Moments.{is_reached}
 use Rattle.flash_machine.specs.Item.{Item}
 use Rattle.flash_machine.specs.Cache.{Items, Cache, first_cache}
-use Rattle.flash_machine.specs.Live.{is_live, where_passes, live_item}
-use Rattle.flash_machine.specs.Storing.{stored_item, stored_or, refusal}
+use Rattle.flash_machine.specs.Live.{is_live, passing_item, live_item}
+use Rattle.flash_machine.specs.Storing.{stored_item, store_outcome, refusal}
 use Rattle.flash_machine.specs.Looking.{fetched_item, look_next}
 use Rattle.flash_machine.specs.Steps.{clock_next, done_next, next, cache_from, cache_of}
 use Rattle.flash_machine.specs.Legal.{Meets, LegalFrom}
@@ -31,7 +31,7 @@ passed_step : (b : Bool) (old item : Item) → cond b (Some old) None ≡ Some i
 passed_step true old item is = is
 passed_step false old item is = absurd (cc is)
 
-pub passed : (test : Item → Bool) (found : Option Item) (item : Item) → where_passes test found ≡ Some item → found ≡ Some item
+pub passed : (test : Item → Bool) (found : Option Item) (item : Item) → passing_item test found ≡ Some item → found ≡ Some item
 passed test None item is = absurd (cc is)
 passed test (Some old) item is = passed_step (test old) old item is
 
@@ -45,7 +45,7 @@ stored_cas c put _ _ = refl
 rises_to : (c : Cache) (moment : ℕ) → c.now ≤ moment → c.now ≤ (clock_next c moment).now
 rises_to c moment rises = cond_both (is_reached c.pending_flush moment) _ _ (λ (d : Cache). c.now ≤ d.now) (λ _. rises) (λ _. rises)
 
-stored_moment : (r : Option Stored) (c : Cache) (key : List ℕ) (item : Item) → c.now ≤ (stored_or r c key item).1.now
+stored_moment : (r : Option Stored) (c : Cache) (key : List ℕ) (item : Item) → c.now ≤ (store_outcome r c key item).1.now
 stored_moment None c key item = omega arith
 stored_moment (Some refusal) c key item = omega arith
 
@@ -60,7 +60,7 @@ looked_moment c key look (Some item) = omega arith
 moment_rises : (g : Geometry) (h : List Entry) (c : Cache) (e : Entry) → Meets g h c e → c.now ≤ (next g h c e).now
 moment_rises g h c (entries.Clock moment) meets = rises_to c moment (omega (arith, meets.above))
 moment_rises g h c (entries.Did id done) meets = done_moment g h c done
-moment_rises g h c (entries.Looked id key look seen) meets = looked_moment c key look (live_item h c key)
+moment_rises g h c (entries.Looked id key look residence) meets = looked_moment c key look (live_item h c key)
 moment_rises g h c (entries.Dropped key cause) meets = omega arith
 moment_rises g h c _ meets = absurd meets
 
@@ -146,7 +146,7 @@ clock_up c moment =
     cond_both (is_reached c.pending_flush moment) _ _ (GoesUp c) (λ _. record { rises = omega arith; numbers = λ was. record { mark = omega arith; items = was.items; own = was.own } })
     (λ _. record { rises = omega arith; numbers = λ was. record { mark = was.mark; items = was.items; own = was.own } })
 
-stored_up : (r : Option Stored) (c : Cache) (key : List ℕ) (item : Item) → item.cas ≡ c.last_cas + 1 → GoesUp c (stored_or r c key item).1
+stored_up : (r : Option Stored) (c : Cache) (key : List ℕ) (item : Item) → item.cas ≡ c.last_cas + 1 → GoesUp c (store_outcome r c key item).1
 stored_up (Some refusal) c key item number = stays c
 stored_up None c key item number = record {
   rises = omega arith;
@@ -176,7 +176,7 @@ looked_up c key look (Some item) there = record {
 step_up : (g : Geometry) (h : List Entry) (c : Cache) (e : Entry) → GoesUp c (next g h c e)
 step_up g h c (entries.Clock moment) = clock_up c moment
 step_up g h c (entries.Did id done) = done_up g h c done
-step_up g h c (entries.Looked id key look seen) = looked_up c key look (live_item h c key) (passed (is_live h c) (map.get c.items key))
+step_up g h c (entries.Looked id key look residence) = looked_up c key look (live_item h c key) (passed (is_live h c) (map.get c.items key))
 step_up g h c (entries.Dropped key cause) = record { rises = omega arith; numbers = λ was. record { mark = was.mark; items = numbered_remove c.last_cas c.items key was.items; own = own_remove c.items key was.own } }
 step_up g h c _ = stays c
 

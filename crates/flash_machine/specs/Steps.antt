@@ -26,7 +26,7 @@ done_next g journal c _ = c
 abbrev pub next : Geometry → List Entry → Cache → Entry → Cache
 next g journal c (entries.Clock moment) = clock_next c moment
 next g journal c (entries.Did id done) = done_next g journal c done
-next g journal c (entries.Looked id key look seen) = look_next c key look (live_item journal c key)
+next g journal c (entries.Looked id key look residence) = look_next c key look (live_item journal c key)
 next g journal c (entries.Dropped key cause) = record c { items = map.remove c.items key }
 next g journal c _ = c
 

@@ -39,14 +39,14 @@ abbrev pub words_cut : List ℕ → Option (List ℕ × List ℕ) → List (List
 words_cut line None = line ∷ []
 words_cut line (Some parts) = parts.0 ∷ words parts.1
 
-in_front : (b : ℕ) (bytes : List ℕ) (cut : Option (List ℕ × List ℕ)) → in_first b (words_cut bytes cut) ≡ words_cut (b ∷ bytes) (option_map (λ parts. (b ∷ parts.0, parts.1)) cut)
-in_front b bytes None = refl
-in_front b bytes (Some parts) = refl
+with_front : (b : ℕ) (bytes : List ℕ) (cut : Option (List ℕ × List ℕ)) → in_first b (words_cut bytes cut) ≡ words_cut (b ∷ bytes) (option_map (λ parts. (b ∷ parts.0, parts.1)) cut)
+with_front b bytes None = refl
+with_front b bytes (Some parts) = refl
 
 by_test : (b : ℕ) (bytes : List ℕ) (space : Bool) (cut : Option (List ℕ × List ℕ)) (ws : List (List ℕ)) → ws ≡ words_cut bytes cut
     → (if space then [] ∷ words bytes else in_first b ws) ≡ words_cut (b ∷ bytes) (if space then Some ([], bytes) else option_map (λ parts. (b ∷ parts.0, parts.1)) cut)
 by_test b bytes true cut ws is = refl
-by_test b bytes false cut ws is = ap (in_first b) is ∙ in_front b bytes cut
+by_test b bytes false cut ws is = ap (in_first b) is ∙ with_front b bytes cut
 
 pub words-cut : (line : List ℕ) → words line ≡ words_cut line (cut_at 32 line)
 words-cut [] = refl

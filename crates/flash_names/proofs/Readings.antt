@@ -2,7 +2,7 @@
 use Rattle.std.proofs.Common.{◌≡◌, ℕ, suc, ◌+◌, ◌-◌, ◌^◌, ◌<◌, min, inl, inr, Bool, true, false, List, Some, None, nat_lt, if◌then◌else◌, refl, arith}
 use Rattle.std.proofs.lemmas.Bool.{ltb-true, lt-ltb}
 use Rattle.flash_names.specs.Clock.{Reads, readings, reading_at}
-use Rattle.flash_names.specs.ListClock.{told_after}
+use Rattle.flash_names.specs.ListClock.{readings_told}
 use Rattle.flash_names.specs.Faults.{next_count}
 
 abbrev next_of : ℕ → List ℕ → ℕ → Bool → Type 0
@@ -16,5 +16,5 @@ go_on limit numbers calls true is =
     let was : nat_lt calls limit ≡ true = lt-ltb _ _ (omega (arith, below)) in
     rw (next, was) (inr refl)
 
-pub reads_next : (numbers : List ℕ) (calls : ℕ) → Reads (told_after numbers calls) (reading_at numbers calls) (told_after numbers (next_count calls))
+pub reads_next : (numbers : List ℕ) (calls : ℕ) → Reads (readings_told numbers calls) (reading_at numbers calls) (readings_told numbers (next_count calls))
 reads_next numbers calls = go_on (2 ^ 64 - 1) numbers calls _ refl

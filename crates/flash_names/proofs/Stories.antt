@@ -22,7 +22,7 @@ module _ {O : Type 0} where
   own_cons true x us vs e = ap (λ zs. x.1 ∷ zs) e
   own_cons false x us vs e = e
 
-  -- the things of m stand among the pairs of all numbers but n
+  -- the things of m are among the pairs of all numbers but n
   pub own_of-without : (m n : ℕ) → m ≢ n → (own : List (ℕ × O)) → own_of m (without n own) ≡ own_of m own
   own_of-without m n ne [] = refl
   own_of-without m n ne (x ∷ xs) =

@@ -1,4 +1,4 @@
--- What the adapters stand over, and the faults that they have counted.
+-- What the adapters are over, and the faults that they have counted.
 use Rattle.std.specs.Prelude.{ℕ}
 use Rattle.flash_names.specs.declared.adapters.ReaderSource.{ReaderSource}
 use Rattle.flash_names.specs.declared.adapters.WriterSink.{WriterSink}

@@ -1,10 +1,10 @@
 -- The readings of a clock over a list of numbers.
 use Rattle.std.specs.Prelude.{◌≡◌, ◌⊎◌, ℕ, zero, suc, ◌-◌, List, [], ◌∷◌, ◌++◌, length, slice_index, min, Option, None}
-use Rattle.flash_names.specs.Told.{behind}
+use Rattle.flash_names.specs.Told.{with_more}
 
--- a call of the clock told this number behind those that it had told, or it tells nothing from then on
+-- a call of the clock told this number after those that it had told, or it tells nothing from then on
 abbrev pub Reads : Option (List ℕ) → ℕ → Option (List ℕ) → Type 0
-Reads before reading now = (now ≡ None) ⊎ (now ≡ behind (reading ∷ []) before)
+Reads before reading now = (now ≡ None) ⊎ (now ≡ with_more (reading ∷ []) before)
 
 -- the n-th reading of these numbers, counted from 0: the last is repeated, and where there is none it is 0
 abbrev pub reading_at : List ℕ → ℕ → ℕ

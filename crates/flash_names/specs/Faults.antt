@@ -1,7 +1,7 @@
 -- The counts of faults, which never fall.
 use Rattle.std.specs.Prelude.{ℕ, ◌+◌, ◌-◌, ◌^◌, ◌≤◌, min, Result, OnErr}
 
--- the count rose by one at least; one that stands at its type's end, 2^64 - 1, counts as risen
+-- the count rose by one at least; one that is at its type's end, 2^64 - 1, counts as risen
 abbrev pub Rose : ℕ → ℕ → Type 0
 Rose before now = min (before + 1) (2 ^ 64 - 1) ≤ now
 

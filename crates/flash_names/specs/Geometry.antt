@@ -6,7 +6,10 @@ use Rattle.flash_names.specs.declared.geometry.BadGeometry.{BadGeometry}
 -- a page is whole blocks of the buffer's size, one at least, and not above 64 MiB
 abbrev pub whole_blocks : ℕ → ℕ → Bool
 whole_blocks page_size buffer_size =
-    nat_le 1 buffer_size && nat_eq (page_size % buffer_size) 0 && nat_le buffer_size page_size && nat_le page_size 67108864
+    nat_le 1 buffer_size
+    && nat_eq (page_size % buffer_size) 0
+    && nat_le buffer_size page_size
+    && nat_le page_size 67108864
 
 -- whether each rule is kept, in their order
 unfoldable pub rules_of : Geometry → List Bool
@@ -29,13 +32,13 @@ first_broken n [] = None
 first_broken n (kept ∷ rest) = if kept then first_broken (n + 1) rest else Some n
 
 -- the answer where this is the first broken rule
-abbrev pub refused_by : Option ℕ → Result ⊤ BadGeometry
-refused_by None = Ok tt
-refused_by (Some rule) = Err (record { rule = rule })
+abbrev pub result_of_rule : Option ℕ → Result ⊤ BadGeometry
+result_of_rule None = Ok tt
+result_of_rule (Some rule) = Err (record { rule = rule })
 
 -- Ok where every rule is kept, and else the number of the first that is broken
-abbrev pub checked : Geometry → Result ⊤ BadGeometry
-checked g = refused_by (first_broken 1 (rules_of g))
+abbrev pub check_result : Geometry → Result ⊤ BadGeometry
+check_result g = result_of_rule (first_broken 1 (rules_of g))
 
 -- a geometry that keeps the ten rules
 pub record Passes (g : Geometry) : Type 0 where

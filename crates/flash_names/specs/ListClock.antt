@@ -12,9 +12,9 @@ abbrev pub calls_of : ListClock → ℕ
 calls_of clock = clock.calls
 
 -- what a clock over these numbers tells after so many calls: its readings, and nothing once its count has stopped
-abbrev pub told_after : List ℕ → ℕ → Option (List ℕ)
-told_after numbers calls = if nat_lt calls (2 ^ 64 - 1) then Some (readings numbers calls) else None
+abbrev pub readings_told : List ℕ → ℕ → Option (List ℕ)
+readings_told numbers calls = if nat_lt calls (2 ^ 64 - 1) then Some (readings numbers calls) else None
 
 -- what it has given, where it tells
 abbrev pub given_by : ListClock → Option (List ℕ)
-given_by clock = told_after (numbers_of clock) (calls_of clock)
+given_by clock = readings_told (numbers_of clock) (calls_of clock)

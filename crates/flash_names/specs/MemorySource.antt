@@ -12,5 +12,5 @@ abbrev pub plan_of : MemorySource → Plan
 plan_of source = source.plan
 
 -- the most bytes of a call
-abbrev pub most_of : MemorySource → ℕ
-most_of source = source.most
+abbrev pub read_limit_of : MemorySource → ℕ
+read_limit_of source = source.most

@@ -5,7 +5,7 @@ use Rattle.std.specs.Prelude.{ℕ, ◌+◌, ◌-◌, ◌*◌, ◌^◌, Bool, ◌
 abbrev pub is_digit : ℕ → Bool
 is_digit b = nat_le 48 b && nat_le b 57
 
--- the number of these digits behind those of n, where all are digits
+-- the number of these digits after those of n, where all are digits
 abbrev pub value_from : ℕ → List ℕ → Option ℕ
 value_from n [] = Some n
 value_from n (b ∷ bytes) = if is_digit b then value_from (10 * n + (b - 48)) bytes else None

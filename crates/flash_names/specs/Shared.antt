@@ -2,7 +2,8 @@
 use Rattle.std.specs.Prelude.{ℕ, ◌==◌, not, List, map, filter, Option, Some, None, length, nat_lt, if◌then◌else◌}
 use mathlib.Core.List.{IsPrefix}
 
--- the later story begins with the earlier one, where both are told; what is told stays told, and what isn't told stays untold
+-- the later story begins with the earlier one, where both are told; what is told stays told, and what isn't told
+-- stays untold
 abbrev pub Begins : {E : Type 0} → Option (List E) → Option (List E) → Type 0
 Begins None None = Unit {0}
 Begins None (Some later) = ⊥

@@ -3,9 +3,9 @@ use Rattle.std.specs.Prelude.{List, ◌++◌, Option}
 use Rattle.std.specs.Option.{option_map}
 
 -- xs, and then what is told, where something is told
-abbrev pub in_front : {T : Type 0} → List T → Option (List T) → Option (List T)
-in_front xs told = option_map (λ rest. xs ++ rest) told
+abbrev pub with_front : {T : Type 0} → List T → Option (List T) → Option (List T)
+with_front xs told = option_map (λ rest. xs ++ rest) told
 
 -- what is told, where something is told, and then xs
-abbrev pub behind : {T : Type 0} → List T → Option (List T) → Option (List T)
-behind xs told = option_map (λ front. front ++ xs) told
+abbrev pub with_more : {T : Type 0} → List T → Option (List T) → Option (List T)
+with_more xs told = option_map (λ front. front ++ xs) told

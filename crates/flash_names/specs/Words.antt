@@ -1,7 +1,7 @@
 -- Lines of words with one space between two.
 use Rattle.std.specs.Prelude.{ℕ, List, [], ◌∷◌, Option, None, Some, ◌==◌, if◌then◌else◌}
 
--- the byte in front of the first word
+-- the byte before the first word
 abbrev pub in_first : ℕ → List (List ℕ) → List (List ℕ)
 in_first b [] = (b ∷ []) ∷ []
 in_first b (w ∷ ws) = (b ∷ w) ∷ ws
@@ -11,7 +11,7 @@ abbrev pub words : List ℕ → List (List ℕ)
 words [] = [] ∷ []
 words (b ∷ bytes) = if b == 32 then [] ∷ words bytes else in_first b (words bytes)
 
--- the words behind a space, where there is one
+-- the words after a space, where there is one
 abbrev pub words_if : Option (List ℕ) → List (List ℕ)
 words_if None = []
 words_if (Some bytes) = words bytes

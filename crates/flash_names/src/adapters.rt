@@ -33,7 +33,8 @@ impl<R: Read> Source for ReaderSource<R> {
         ensures counts { Counts (source_faults_of self.old) (source_faults_of self.new) result }
 
         // The reader lost what it gave, and nothing by a read that failed.
-        ensures passed_on { ReadConsumes (R.remaining (reader_of self.old)) (R.remaining (reader_of self.new)) result into.new }
+        ensures passed_on { ReadConsumes (R.remaining (reader_of self.old))
+            (R.remaining (reader_of self.new)) result into.new }
     {
         match self.reader.read(into) {
             Ok(n) => Ok(n),
@@ -74,7 +75,8 @@ impl<W: Write> Sink for WriterSink<W> {
         ensures counts { Counts (sink_faults_of self.old) (sink_faults_of self.new) result }
 
         // The writer got what it took, and nothing of a write that failed.
-        ensures passed_on { WriteAppends (W.contents (writer_of self.old)) (W.contents (writer_of self.new)) result bytes.now }
+        ensures passed_on { WriteAppends (W.contents (writer_of self.old))
+            (W.contents (writer_of self.new)) result bytes.now }
     {
         match self.writer.write(bytes) {
             Ok(n) if n > 0 || bytes.is_empty() => Ok(n),

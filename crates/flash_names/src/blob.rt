@@ -20,7 +20,7 @@ impl Model for Blob {
 }
 
 impl Blob {
-    /// A copy of these bytes, or want of memory.
+    /// A copy of these bytes, or an error where memory runs out.
     pub fn from_slice(alloc: Global, bytes: &[u8]) -> Result<Blob, AllocError>
         ensures { IfOk result (λ blob. blob ≡ bytes.now) }
     {

@@ -7,7 +7,7 @@ pub trait Clock {
     /// The numbers that it has given, oldest first, where the clock tells them.
     ghost given: { Self → Option (List ℕ) };
 
-    /// How often the clock behind it has failed. It never falls.
+    /// How often the clock below it has failed. It never falls.
     ghost faults: { Self → ℕ };
 
     /// The reading now, in Unix seconds. It can't fail. No call makes a clock tell that didn't tell before.
@@ -45,7 +45,6 @@ impl Clock for ListClock {
 
     fn now(&mut self) -> u64
         ensures reads { Reads (given_by self.old) result (given_by self.new) }
-        ensures counts { 0 ≤ 0 }
 
         // The numbers in their order, and then the last again and again.
         ensures exact { result ≡ reading_at (numbers_of self.old) (calls_of self.old) }

@@ -47,7 +47,7 @@ impl FaultPlan {
         fails
     }
 
-    /// Counts a fault that stands in no list, as want of memory.
+    /// Counts a fault that is in no list, as out of memory.
     pub fn add_fault(&mut self)
         ensures counted { self.new ≡ with_fault self.old }
         ensures kept { self.old.faults ≤ self.new.faults }

@@ -1,5 +1,7 @@
 ghost use Rattle.std.specs.Prelude.{◌≡◌, ◌*◌, ◌<◌, ◌&&◌, length, nat_le, ◌↔◌, IsOk};
-ghost use Rattle.flash_names.specs.Geometry.{checked, first_broken, rules_of, whole_blocks, Passes};
+ghost use Rattle.flash_names.specs.Geometry.{check_result, first_broken, rules_of, whole_blocks, Passes};
+
+use thiserror::Error;
 
 /// The sizes of a store, as line 1 of a script gives them. `Geometry::check` tests the range that each field
 /// names. The names follow memcached's options: `-m` for the memory, `-I` for the most bytes of an item, and
@@ -32,7 +34,8 @@ pub struct Geometry {
 }
 
 /// A geometry that a store refuses.
-#[derive(Clone, Copy, Debug, PartialEq, Eq)]
+#[derive(Clone, Copy, Debug, PartialEq, Eq, Error)]
+#[error("the geometry breaks rule {rule}")]
 pub struct BadGeometry {
     /// The number, from 1 to 10, of the first rule that the geometry breaks.
     pub rule: u32,
@@ -41,7 +44,7 @@ pub struct BadGeometry {
 impl Geometry {
     /// Tests the ten rules of a geometry in their order, and names the first that is broken.
     pub fn check(&self) -> Result<(), BadGeometry>
-        ensures exact { result ≡ checked self.now }
+        ensures exact { result ≡ check_result self.now }
         ensures passes { IsOk result ↔ Passes self.now }
     {
         match first_broken_of(&self.kept_rules()) {

@@ -1,5 +1,5 @@
 ghost use Rattle.std.specs.Prelude.{◌≡◌, ◌<◌, ◌≤◌, [], Some, Ok, length, take, IfOk, OnOk, OnErr, IsTrue, if◌then◌else◌};
-ghost use Rattle.flash_names.specs.Told.{behind};
+ghost use Rattle.flash_names.specs.Told.{with_more};
 ghost use Rattle.flash_names.specs.Faults.{Counts};
 ghost use Rattle.flash_names.specs.FaultPlan.{fails_next, after_call, with_fault};
 
@@ -46,7 +46,8 @@ impl Sink for MemorySink {
     fn write(&mut self, bytes: &[u8]) -> Result<usize, SinkFault>
         ensures bound { IfOk result (λ n. n ≤ length bytes.now) }
         ensures progress { IfOk result (λ n. 0 < length bytes.now → 0 < n) }
-        ensures appended { IfOk result (λ n. Some (bytes_held self.new) ≡ behind (take n bytes.now) (Some (bytes_held self.old))) }
+        ensures appended { IfOk result (λ n. Some (bytes_held self.new)
+            ≡ with_more (take n bytes.now) (Some (bytes_held self.old))) }
         ensures failed { OnErr result (Some (bytes_held self.new) ≡ Some (bytes_held self.old)) }
         ensures counts { Counts (plan_of self.old).faults (plan_of self.new).faults result }
 
@@ -56,7 +57,8 @@ impl Sink for MemorySink {
         ensures plan { OnOk result (plan_of self.new ≡ after_call (plan_of self.old)) }
 
         // A call of its plan counts one fault, and so does one for which memory ran out.
-        ensures failed_plan { OnErr result (plan_of self.new ≡ (if fails_next (plan_of self.old) then after_call (plan_of self.old)
+        ensures failed_plan { OnErr result (plan_of self.new
+            ≡ (if fails_next (plan_of self.old) then after_call (plan_of self.old)
             else with_fault (after_call (plan_of self.old)))) }
     {
         if self.plan.next_fails() {

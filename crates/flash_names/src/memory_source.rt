@@ -1,5 +1,5 @@
 ghost use Rattle.std.specs.Prelude.{◌≡◌, ◌<◌, ◌≤◌, Some, Ok, Err, length, take, min, ◌-◌, IfOk, OnErr, if◌then◌else◌};
-ghost use Rattle.flash_names.specs.Told.{in_front};
+ghost use Rattle.flash_names.specs.Told.{with_front};
 ghost use Rattle.flash_names.specs.Faults.{Counts};
 ghost use Rattle.flash_names.specs.Source.{IsAtEnd};
 ghost use Rattle.flash_names.specs.FaultPlan.{fails_next, after_call};
@@ -19,14 +19,14 @@ pub struct MemorySource {
 }
 
 impl MemorySource {
-    ghost use Rattle.flash_names.specs.MemorySource.{bytes_left, plan_of, most_of};
+    ghost use Rattle.flash_names.specs.MemorySource.{bytes_left, plan_of, read_limit_of};
 
     /// A source of these bytes, as many in a call as fit, that fails in the calls of these numbers, counted
     /// from 1.
     pub fn new(bytes: Vec<u8>, fails: Vec<u32>) -> MemorySource
         ensures bytes { bytes_left result ≡ bytes.items }
         ensures plan { plan_of result ≡ record { fails = fails.items; calls = 0; faults = 0 } }
-        ensures most { most_of result ≡ usize.MAX }
+        ensures most { read_limit_of result ≡ usize.MAX }
     {
         MemorySource::in_pieces(bytes, usize::MAX, fails)
     }
@@ -37,7 +37,7 @@ impl MemorySource {
         requires { 0 < most }
         ensures bytes { bytes_left result ≡ bytes.items }
         ensures plan { plan_of result ≡ record { fails = fails.items; calls = 0; faults = 0 } }
-        ensures most { most_of result ≡ most }
+        ensures most { read_limit_of result ≡ most }
     {
         MemorySource {
             bytes,
@@ -49,7 +49,7 @@ impl MemorySource {
 }
 
 impl Source for MemorySource {
-    ghost use Rattle.flash_names.specs.MemorySource.{bytes_left, plan_of, most_of};
+    ghost use Rattle.flash_names.specs.MemorySource.{bytes_left, plan_of, read_limit_of};
 
     ghost left = { λ s. Some (bytes_left s) };
 
@@ -57,16 +57,17 @@ impl Source for MemorySource {
 
     fn read(&mut self, into: &mut [u8]) -> Result<usize, SourceFault>
         ensures bound { IfOk result (λ n. n ≤ length into.old) }
-        ensures taken { IfOk result (λ n. Some (bytes_left self.old) ≡ in_front (take n into.new) (Some (bytes_left self.new))) }
+        ensures taken { IfOk result (λ n. Some (bytes_left self.old)
+            ≡ with_front (take n into.new) (Some (bytes_left self.new))) }
         ensures end { IfOk result (λ n. n ≡ 0 → 0 < length into.old → IsAtEnd (Some (bytes_left self.old))) }
         ensures failed { OnErr result (Some (bytes_left self.new) ≡ Some (bytes_left self.old)) }
         ensures counts { Counts (plan_of self.old).faults (plan_of self.new).faults result }
 
         // It fails exactly in the calls of its plan, and else gives as many bytes as it may.
         ensures exact { result ≡ (if fails_next (plan_of self.old) then Err (record {})
-            else Ok (min (min (length into.old) (length (bytes_left self.old))) (most_of self.old))) }
+            else Ok (min (min (length into.old) (length (bytes_left self.old))) (read_limit_of self.old))) }
         ensures plan { plan_of self.new ≡ after_call (plan_of self.old) }
-        ensures most { most_of self.new ≡ most_of self.old }
+        ensures most { read_limit_of self.new ≡ read_limit_of self.old }
     {
         if self.plan.next_fails() {
             return Err(SourceFault);

@@ -6,7 +6,7 @@ ghost use Rattle.flash_names.specs.Numbers.{number_of, value_from, if_below};
 
 use memchr::memchr;
 
-/// The first word of a line whose words have one space between two, and what stands behind that space,
+/// The first word of a line whose words have one space between two, and what is after that space,
 /// where there is one.
 pub fn split_word(line: &[u8]) -> (&[u8], Option<&[u8]>)
     ensures { words line.now ≡ result.0.now ∷ words_if (option_map (λ rest. rest.now) result.1) }
@@ -17,7 +17,7 @@ pub fn split_word(line: &[u8]) -> (&[u8], Option<&[u8]>)
     }
 }
 
-/// What stands in front of the first such byte and what stands behind it, where there is one.
+/// What is before the first such byte and what is after it, where there is one.
 pub fn cut_at_byte(byte: u8, bytes: &[u8]) -> Option<(&[u8], &[u8])>
     ensures parts { option_map (λ parts. (parts.0.now, parts.1.now)) result ≡ cut_at byte bytes.now }
     ensures lengths { IfSome result (λ parts. length parts.0.now + 1 + length parts.1.now ≡ length bytes.now) }

@@ -6,7 +6,7 @@ use Rattle.flash_pages.specs.declared.victims.Candidate.{Candidate}
 use Rattle.flash_pages.specs.PageTable.{blank}
 use Rattle.flash_pages.specs.Least.{lesser, least_from}
 
--- the row of number k, at i behind n, is this candidate
+-- the row of number k, at i after n, is this candidate
 abbrev pub Is : (ℕ → PageRow → Option Candidate) → ℕ → List PageRow → ℕ → Option Candidate → Type 0
 Is candidate n rows i chosen = (k : ℕ) → k ≡ n + i → candidate k (get_or rows i blank) ≡ chosen
 
@@ -21,7 +21,7 @@ abbrev pub Chosen : (ℕ → PageRow → Option Candidate) → ℕ → List Page
 Chosen candidate n rows None = (i : ℕ) → i < length rows → Is candidate n rows i None
 Chosen candidate n rows (Some chosen) = (i : ℕ) × IsFirstLeast candidate n rows chosen i
 
--- what holds of a row behind the first
+-- what holds of a row after the first
 behind : (candidate : ℕ → PageRow → Option Candidate) (n : ℕ) (row : PageRow) (rest : List PageRow) (i : ℕ) (chosen : Option Candidate) → Is candidate n (row ∷ rest) (suc i) chosen → Is candidate (n + 1) rest i chosen
 behind candidate n row rest i chosen is = λ k at. is k (omega (arith, at))
 
@@ -44,7 +44,7 @@ none_behind candidate n rows i other is also =
     let none : candidate (n + i) (get_or rows i blank) ≡ None = is (n + i) refl in
     cc
 
--- the first row, where its weight is at most that of each behind it
+-- the first row, where its weight is at most that of each after it
 first_chosen : (candidate : ℕ → PageRow → Option Candidate) (n : ℕ) (row : PageRow) (rest : List PageRow) (one : Candidate) → candidate n row ≡ Some one → ((j : ℕ) (other : Candidate) → j < length rest → Is candidate (n + 1) rest j (Some other) → one.weight ≤ other.weight) → IsFirstLeast candidate n (row ∷ rest) one zero
 first_chosen candidate n row rest one is behind_it = record {
   inside = omega arith;
@@ -56,7 +56,7 @@ first_chosen candidate n row rest one is behind_it = record {
   least_here candidate n row rest one is behind_it zero other inside at = omega (arith, ap (λ (c : Candidate). c.weight) (same candidate n row rest one other is at))
   least_here candidate n row rest one is behind_it (suc j) other inside at = behind_it j other (omega (arith, inside)) (behind candidate n row rest j (Some other) at)
 
--- a row behind the first, where the first is none or has a greater weight
+-- a row after the first, where the first is none or has a greater weight
 later_chosen : (candidate : ℕ → PageRow → Option Candidate) (n : ℕ) (row : PageRow) (rest : List PageRow) (chosen : Candidate) (i : ℕ) → ((other : Candidate) → candidate n row ≡ Some other → chosen.weight < other.weight) → IsFirstLeast candidate (n + 1) rest chosen i → IsFirstLeast candidate n (row ∷ rest) chosen (suc i)
 later_chosen candidate n row rest chosen i above is = record {
   inside = omega (arith, is.inside);
@@ -76,7 +76,7 @@ no_row : (candidate : ℕ → PageRow → Option Candidate) (n : ℕ) (row : Pag
 no_row candidate n row rest is later zero inside = here candidate n row rest None is
 no_row candidate n row rest is later (suc i) inside = before candidate n row rest i None (later i (omega (arith, inside)))
 
--- of the first row and the least behind it
+-- of the first row and the least after it
 of_two : (candidate : ℕ → PageRow → Option Candidate) (n : ℕ) (row : PageRow) (rest : List PageRow) (one other : Candidate) (less : Bool) → nat_le one.weight other.weight ≡ less → candidate n row ≡ Some one → Chosen candidate (n + 1) rest (Some other) → Chosen candidate n (row ∷ rest) (cond less (Some one) (Some other))
 of_two candidate n row rest one other true less is later =
     (zero, first_chosen candidate n row rest one is (λ j third inside at. (let most : other.weight ≤ third.weight = later.1.least j third inside at in grind (arith, nat_tests))))

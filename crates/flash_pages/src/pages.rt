@@ -70,7 +70,7 @@ impl Model for Pages {
 }
 
 impl Pages {
-    /// The pages of this geometry, all of them free, or want of memory. No later call answers that.
+    /// The pages of this geometry, all of them free, or an error where memory runs out. No later call answers that.
     pub fn open(alloc: Global, geometry: &Geometry) -> Result<Pages, AllocError>
         ensures { IfOk result (λ pages. pages ≡ first_table geometry.now) }
     {

@@ -1,4 +1,4 @@
--- What was read stands at the front.
+-- What was read is at the front.
 use Rattle.std.proofs.Common.{◌≡◌, ℕ, ◌+◌, ◌<◌, ◌≤◌, List, [], ◌∷◌, ◌++◌, length, take, drop, get_or, Bool, true, false, ◌||◌, ◌&&◌, nat_le, nat_eq, refl, sym, ap, ◌∙◌, arith, append_assoc, length-drop, length-take}
 use Rattle.std.proofs.lemmas.Bool.{and_parts, ltb-false, lt-leb, leb-true, eqb-true}
 use Rattle.std.proofs.lemmas.List.{take_at}
@@ -61,7 +61,7 @@ has_shape bytes each head magic =
     ∙ ap (λ (l : List ℕ). p.key ++ l) (piece (28 + k) v place bytes refl)
     ∙ sym (append_assoc p.key p.value (drop place bytes)))))))
 
--- the content stands at the front
+-- the content is at the front
 content_is : (bytes : List ℕ) → IsBytes bytes → 28 ≤ length bytes → checksum_place bytes ≤ length bytes → agrees_with_magic bytes ≡ true → bytes ≡ content (parts_at bytes) ++ drop (checksum_place bytes) bytes
 content_is bytes each head long magic =
     let p = parts_at bytes in
@@ -71,7 +71,7 @@ content_is bytes each head long magic =
     ∙ ap (λ (v : ℕ). shape (length p.key) v p back) (sym (size_of (value_length bytes) (28 + key_length bytes) bytes long))
     ∙ shape_is p back
 
--- what passes the tests is a record of its parts, with the rest behind it
+-- what passes the tests is a record of its parts, with the rest after it
 pub stands : (bytes : List ℕ) → IsBytes bytes → Passes bytes → (Fits (parts_at bytes)) × (bytes ≡ record_bytes (parts_at bytes) ++ drop (record_length (parts_at bytes)) bytes)
 unfolding record_bytes
 stands bytes each passes =

@@ -36,7 +36,7 @@ value_length bytes = number_at w32 8 bytes
 abbrev pub checksum_place : List ℕ → ℕ
 checksum_place bytes = 28 + key_length bytes + value_length bytes
 
--- the parts that stand at their places, by these lengths
+-- the parts that are at their places, by these lengths
 abbrev pub parts_at : List ℕ → Parts
 parts_at bytes = record {
   key = take (key_length bytes) (drop 28 bytes);

@@ -30,6 +30,6 @@ content p =
     (0x46 ∷ 0x52 ∷ 0x01 ∷ length p.key ∷ to_be_bytes w32 p.flags)
     ++ (to_be_bytes w32 (length p.value) ++ (to_be_bytes w64 p.cas ++ (to_be_bytes w64 p.version ++ (p.key ++ p.value))))
 
--- the record: its content, and behind it the content's CRC-32C, with the highest byte first
+-- the record: its content, and after it the content's CRC-32C, with the highest byte first
 unfoldable pub record_bytes : Parts → List ℕ
 record_bytes p = content p ++ to_be_bytes w32 (crc32c (content p))

@@ -1,13 +1,13 @@
 /// The first bytes of every record.
 pub const MAGIC: [u8; 3] = [0x46, 0x52, 0x01];
 
-/// How many bytes stand in front of the key.
+/// How many bytes are before the key.
 pub const HEAD_LENGTH: usize = 28;
 
 /// How many bytes the checksum has, which ends the record.
 pub const CHECKSUM_LENGTH: usize = 4;
 
-/// Where the byte of the key's length stands.
+/// Where the byte of the key's length is.
 pub const KEY_LENGTH_OFFSET: usize = 3;
 
 /// Where the flags begin, four bytes.

@@ -1,4 +1,4 @@
-/// Why no record stands at the front of some bytes.
+/// Why no record is at the front of some bytes.
 #[derive(Clone, Copy, Debug, PartialEq, Eq)]
 pub enum NotRecord {
     /// There are no bytes, or the first is 0: the records of a block end here.

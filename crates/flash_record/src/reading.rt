@@ -32,11 +32,11 @@ pub struct Record<'a> {
 /// the first of these that applies: `End`, `Magic`, `Short` where there are fewer than 32 bytes, `Lengths`,
 /// `Short` where there are fewer than the lengths ask for, `Sum`.
 pub fn read_record(bytes: &[u8]) -> Result<Record<'_>, NotRecord>
-    // What was read stands at the front.
+    // What was read is at the front.
     ensures found { IfOk result (λ r. Fits (parts_of r) × (bytes.now ≡ record_bytes (parts_of r) ++ drop r.length bytes.now)) }
     ensures length { IfOk result (λ r. (r.length ≡ record_length (parts_of r)) × (r.length ≤ length bytes.now)) }
 
-    // What stands at the front is read.
+    // What is at the front is read.
     ensures only { (p : Parts) (rest : List ℕ) → Fits p → bytes.now ≡ record_bytes p ++ rest → Gives result (Ok p) }
 
     // Which answer it is.

@@ -62,7 +62,7 @@ fn write_content(
     put(into, value_at, value)
 }
 
-// Puts these bytes at a place, and answers the place behind them.
+// Puts these bytes at a place, and answers the place after them.
 fn put(into: &mut [u8], at: usize, bytes: &[u8]) -> usize
     requires { at + length bytes.now ≤ length into.old }
     ensures next { result ≡ at + length bytes.now }

@@ -44,7 +44,7 @@ fn main(rt: HostRuntime) -> ExitCode {
     ExitCode::from(exit_status(status))
 }
 
-// The words of the command line behind the program's name, or `None` where one isn't UTF-8.
+// The words of the command line after the program's name, or `None` where one isn't UTF-8.
 fn read_words(rt: &HostRuntime) -> Result<Option<Vec<Blob>>, AllocError> {
     let alloc = rt.alloc();
     let Ok(args) = env::args(rt) else {

@@ -99,7 +99,7 @@ module _ (g : Geometry) (pass : ℕ) where
       served_other g other k.journal (store_call g k.cache k.desk id put).entries done last said id (asks.Store put) differ (store_asked k.cache k.desk id g put) was
   act_serves_other other state (Refused refusal) done last said differ was = was
 
-  -- so it was behind all of them
+  -- so it was after all of them
   pub act_all_serves_other : (other : ℕ) (state : StoreState × Seat) (commands : List Command) (done : List Command) (last : ℕ) (said : List ℕ) → pass ≢ other → IsServed g other state.0.journal done last said
       → IsServed g other (act_all g pass state commands).0.journal done last said
   act_all_serves_other other state [] done last said differ was = was

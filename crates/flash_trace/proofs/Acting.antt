@@ -13,7 +13,7 @@ front_item all i item within is =
     let next : suc i ≡ i + 1 = omega arith in
     drop-cons all i item within ∙ ap (λ x. x ∷ drop (suc i) all) (sym is) ∙ ap (λ n. item ∷ drop n all) next
 
--- the next number of a session behind what was done so far is new
+-- the next number of a session after what was done so far is new
 abbrev pub HasNewNext : ℕ → StoreState × Seat → Type 0
 HasNewNext pass state = IsNew state.0.journal (record { pass = pass; seq = state.1.last + 1 })
 
@@ -22,7 +22,7 @@ module _ (g : Geometry) (pass : ℕ) (state next : StoreState × Seat) (command 
   pub new_next : HasNewNext pass state → HasNewNext pass next
   new_next new = subst (HasNewNext pass) (sym is) (act_new g pass state command new)
 
-  -- and leaves the commands behind it
+  -- and leaves the commands after it
   pub left_next : (left rest : List Command) (all : StoreState × Seat) → left ≡ command ∷ rest → act_all g pass state left ≡ all → act_all g pass next rest ≡ all
   left_next left rest all front whole =
       ap (λ (s : StoreState × Seat). act_all g pass s rest) is ∙ ap (λ (l : List Command). act_all g pass state l) (sym front) ∙ whole

@@ -15,7 +15,7 @@ use Rattle.flash_entry.specs.declared.entry.Done.TheVariants as deeds
 use Rattle.flash_entry.specs.declared.entry.Entry.{Entry}
 use Rattle.flash_entry.specs.declared.entry.Entry.TheVariants as entries
 use Rattle.flash_machine.specs.Cache.{Cache}
-use Rattle.flash_machine.specs.Looking.{seen_of}
+use Rattle.flash_machine.specs.Looking.{residence_of}
 use Rattle.flash_core.specs.Store.{Desk, Call}
 use Rattle.flash_core.specs.Calls.{is_dead_at, sweep, store_call, look_call}
 use Rattle.flash_trace.specs.Answers.{entry_ask}
@@ -47,5 +47,5 @@ module _ (c : Cache) (desk : Desk) (id : Id) where
 
   pub look_asked : (key : List ℕ) (look : Look) → AreOf id (asks.Look key look) (look_call c desk id key look).entries
   look_asked key look =
-      let own = entries.Looked id key look (seen_of (finite.get (sweep c desk key).cache.items key)) in
+      let own = entries.Looked id key look (residence_of (finite.get (sweep c desk key).cache.items key)) in
       all_behind (IsOf id (asks.Look key look)) (sweep c desk key).entries (own ∷ []) (swept_asked key (asks.Look key look)) (own_asked (asks.Look key look) own refl, tt)

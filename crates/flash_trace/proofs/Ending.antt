@@ -3,7 +3,7 @@ use Rattle.std.proofs.Common.{◌≡◌, ℕ, ◌<◌, Bool, List, [], ◌++◌,
 use Rattle.std.proofs.lemmas.Bool.{lt-ltb}
 use Rattle.std.proofs.lemmas.List.{append-nil}
 use Rattle.flash_names.specs.Source.{IsAtEnd}
-use Rattle.flash_names.specs.Told.{in_front}
+use Rattle.flash_names.specs.Told.{with_front}
 use Rattle.flash_device.specs.declared.shape.Shape.{Shape}
 use Rattle.flash_trace.specs.declared.fault.ScriptFault.{ScriptFault}
 use Rattle.flash_trace.specs.declared.fault.Status.{Status}
@@ -83,7 +83,7 @@ record Leaves (all bytes : List ℕ) (left_after : Option (List ℕ)) : Type 0 w
   parts : all ≡ bytes ++ rest
   tells : left_after ≡ Some rest
 
-leaves : (all bytes : List ℕ) (left_after : Option (List ℕ)) → Some all ≡ in_front bytes left_after → Leaves all bytes left_after
+leaves : (all bytes : List ℕ) (left_after : Option (List ℕ)) → Some all ≡ with_front bytes left_after → Leaves all bytes left_after
 leaves all bytes None taken = absurd (cc taken)
 leaves all bytes (Some rest) taken = record { rest = rest; parts = cc; tells = refl }
 

@@ -46,7 +46,7 @@ ended m (b ∷ bytes) = ended m bytes
 no_command : (m : ℕ) (r next : Reader) (b : ℕ) (bytes : List ℕ) → read_byte m r b ≡ ([], next) → read_from m r (b ∷ bytes) ≡ read_from m next bytes
 no_command m r next b bytes is = ap (λ (first : Read). behind_these first.0 (read_from m first.1 bytes)) is
 
--- the first of bytes that have no such byte is another, and so are those behind it
+-- the first of bytes that have no such byte is another, and so are those after it
 first_other : (c b : ℕ) (bytes : List ℕ) (test : Bool) → (b == c) ≡ test → (not test && list_all (λ x. not (x == c)) bytes) ≡ true → ((b == c) ≡ false) × HasNo c bytes
 first_other c b bytes true is none = absurd (cc none)
 first_other c b bytes false is none = (is, none)

@@ -9,15 +9,15 @@ use Rattle.flash_names.specs.Cut.{cut_at}
 abbrev pub HasNo : ℕ → List ℕ → Type 0
 HasNo c bytes = list_all (λ b. not (b == c)) bytes ≡ true
 
--- the bytes are those in front of the first such byte, that byte and those behind it
+-- the bytes are those before the first such byte, that byte and those after it
 pub record IsCut (c : ℕ) (bytes front rest : List ℕ) : Type 0 where
   pub whole : bytes ≡ front ++ c ∷ rest
   pub none : HasNo c front
 
-abbrev in_front : ℕ → List ℕ × List ℕ → List ℕ × List ℕ
-in_front b parts = (b ∷ parts.0, parts.1)
+abbrev with_front : ℕ → List ℕ × List ℕ → List ℕ × List ℕ
+with_front b parts = (b ∷ parts.0, parts.1)
 
-none_by : (c b : ℕ) (bytes : List ℕ) (test : Bool) (cut : Option (List ℕ × List ℕ)) → (b == c) ≡ test → (if test then Some ([], bytes) else option_map (in_front b) cut) ≡ None → (cut ≡ None → HasNo c bytes) → HasNo c (b ∷ bytes)
+none_by : (c b : ℕ) (bytes : List ℕ) (test : Bool) (cut : Option (List ℕ × List ℕ)) → (b == c) ≡ test → (if test then Some ([], bytes) else option_map (with_front b) cut) ≡ None → (cut ≡ None → HasNo c bytes) → HasNo c (b ∷ bytes)
 none_by c b bytes true cut is none rest = absurd (cc none)
 none_by c b bytes false (Some parts) is none rest = absurd (cc none)
 none_by c b bytes false None is none rest = ap (λ (test : Bool). not test && list_all (λ (x : ℕ). not (x == c)) bytes) is ∙ rest refl
@@ -30,7 +30,7 @@ abbrev parts_of : Option (List ℕ × List ℕ) → List ℕ × List ℕ
 parts_of None = ([], [])
 parts_of (Some parts) = parts
 
-some_by : (c b : ℕ) (bytes front rest : List ℕ) (test : Bool) (cut : Option (List ℕ × List ℕ)) → (b == c) ≡ test → (if test then Some ([], bytes) else option_map (in_front b) cut) ≡ Some (front, rest)
+some_by : (c b : ℕ) (bytes front rest : List ℕ) (test : Bool) (cut : Option (List ℕ × List ℕ)) → (b == c) ≡ test → (if test then Some ([], bytes) else option_map (with_front b) cut) ≡ Some (front, rest)
     → ((f r : List ℕ) → cut ≡ Some (f, r) → IsCut c bytes f r) → IsCut c (b ∷ bytes) front rest
 some_by c b bytes front rest true cut is found more =
     let same : b ≡ c = grind (arith, nat_tests) in
@@ -42,12 +42,12 @@ some_by c b bytes front rest true cut is found more =
     }
 some_by c b bytes front rest false None is found more = absurd (cc found)
 some_by c b bytes front rest false (Some parts) is found more =
-    let behind = more parts.0 parts.1 refl in
+    let with_more = more parts.0 parts.1 refl in
     let fronts : b ∷ parts.0 ≡ front = ap (λ (o : Option (List ℕ × List ℕ)). (parts_of o).0) found in
     let rests : parts.1 ≡ rest = ap (λ (o : Option (List ℕ × List ℕ)). (parts_of o).1) found in
     record {
-      whole = ap (λ (xs : List ℕ). b ∷ xs) behind.whole ∙ ap (λ (r : List ℕ). (b ∷ parts.0) ++ c ∷ r) rests ∙ ap (λ (f : List ℕ). f ++ c ∷ rest) fronts;
-      none = ap (list_all (λ (x : ℕ). not (x == c))) (sym fronts) ∙ ap (λ (test : Bool). not test && list_all (λ (x : ℕ). not (x == c)) parts.0) is ∙ behind.none;
+      whole = ap (λ (xs : List ℕ). b ∷ xs) with_more.whole ∙ ap (λ (r : List ℕ). (b ∷ parts.0) ++ c ∷ r) rests ∙ ap (λ (f : List ℕ). f ++ c ∷ rest) fronts;
+      none = ap (list_all (λ (x : ℕ). not (x == c))) (sym fronts) ∙ ap (λ (test : Bool). not test && list_all (λ (x : ℕ). not (x == c)) parts.0) is ∙ with_more.none;
     }
 
 pub cut_there : (c : ℕ) (bytes front rest : List ℕ) → cut_at c bytes ≡ Some (front, rest) → IsCut c bytes front rest

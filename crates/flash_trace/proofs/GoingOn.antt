@@ -6,7 +6,7 @@ use Rattle.flash_trace.specs.Commands.{Reader, Read, read_from}
 use Rattle.flash_trace.specs.Sessions.{reader_of, waiting_of, behind_these, Took, LeavesRest}
 use Rattle.flash_trace.proofs.Feeding.{behind_behind}
 
--- this was read of the bytes in front of the rest
+-- this was read of the bytes before the rest
 pub leaves_rest : (from old new : Session) (r : Reader) (bytes rest : List ℕ) (read : Read) → from.item_max ≡ old.item_max → waiting_of from ≡ waiting_of old → Took from read new
     → read_from old.item_max r bytes ≡ behind_these read.0 (read_from old.item_max read.1 rest) → length rest < length bytes → LeavesRest old r bytes new rest
 leaves_rest from old new r bytes rest read size was took is shorter =

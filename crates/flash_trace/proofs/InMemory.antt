@@ -15,7 +15,7 @@ use Rattle.flash_entry.specs.declared.answer.Stored.{Stored}
 use Rattle.flash_machine.specs.Item.{Item}
 use Rattle.flash_machine.specs.Moments.{is_reached}
 use Rattle.flash_machine.specs.Cache.{Items, Cache, first_cache}
-use Rattle.flash_machine.specs.Storing.{stored_item, stored_or, refusal}
+use Rattle.flash_machine.specs.Storing.{stored_item, store_outcome, refusal}
 use Rattle.flash_machine.specs.Looking.{look_next, fetched_item}
 use Rattle.flash_machine.specs.Steps.{clock_next}
 use Rattle.flash_core.specs.Store.{Desk, Call}
@@ -61,7 +61,7 @@ stored_label c put Prepend (Some item) = refl
 stored_label c put _ _ = refl
 
 -- the items after a store, refused or not
-with_refusal : (refusal : Option Stored) (c : Cache) (key : List ℕ) (item : Item) → item.label ≡ None → AreHere c.items → AreHere (stored_or refusal c key item).1.items
+with_refusal : (refusal : Option Stored) (c : Cache) (key : List ℕ) (item : Item) → item.label ≡ None → AreHere c.items → AreHere (store_outcome refusal c key item).1.items
 with_refusal None c key item none here = inserted_here c.items key item none here
 with_refusal (Some refusal) c key item none here = here
 

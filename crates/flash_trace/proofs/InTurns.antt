@@ -5,8 +5,8 @@ use Rattle.std.proofs.lemmas.List.{append-nil}
 use Rattle.flash_trace.specs.Answers.{bytes_for, bytes_in_turns, is_turn, has_turn}
 use Rattle.flash_trace.specs.Steps.{Step}
 
--- the bytes in front of a session's last turn behind these steps, where it was given `given` in front of them, of
--- which `turned` stood in front of its last turn
+-- the bytes before a session's last turn after these steps, where it was given `given` before them, of
+-- which `turned` was before its last turn
 abbrev pub turned_behind : ℕ → List ℕ → List ℕ → List Step → List ℕ
 turned_behind session given turned [] = turned
 turned_behind session given turned (step ∷ steps) =
@@ -18,7 +18,7 @@ behind_none true more bytes rest none tail = absurd (cc none)
 behind_none false true bytes rest none tail = absurd (cc none)
 behind_none false false bytes rest none tail = tail refl
 
--- the bytes in front of a turn, by whether the first step is one and whether one of the others is
+-- the bytes before a turn, by whether the first step is one and whether one of the others is
 by_turns : (first more : Bool) (given turned bytes rest : List ℕ) → (more ≡ false → rest ≡ [])
     → (if more then (given ++ bytes) ++ rest else (if first then given else turned)) ≡ (if first || more then given ++ ((if more then bytes else []) ++ rest) else turned)
 by_turns true true given turned bytes rest tail = append_assoc given bytes rest

@@ -20,7 +20,7 @@ mod Recorded
 mod Returned
 mod Right
 mod ScriptByLines
-mod ScriptHead
+mod ScriptGeometryLine
 mod ScriptLines
 mod ScriptReadings
 mod ScriptTurns

@@ -9,7 +9,7 @@ module _ {A : Type 0} where
   all_map P Q follows [] all = tt
   all_map P Q follows (x ∷ xs) all = (follows x all.0, all_map P Q follows xs all.1)
 
-  -- an element in front of others, and the one behind all of them
+  -- an element before others, and the one after all of them
   pub get-front : (xs ys : List A) (i : ℕ) (x : A) → slice_get xs i ≡ Some x → slice_get (xs ++ ys) i ≡ Some x
   get-front [] ys i x is = absurd (cc is)
   get-front (y ∷ xs) ys zero x is = is

@@ -14,7 +14,7 @@ use Rattle.flash_machine.specs.Item.{Item}
 use Rattle.flash_machine.specs.Looking.{look_next}
 use Rattle.flash_machine.specs.Moments.{is_reached}
 use Rattle.flash_machine.specs.Steps.{clock_next}
-use Rattle.flash_machine.specs.Storing.{refusal, stored_item, stored_or}
+use Rattle.flash_machine.specs.Storing.{refusal, stored_item, store_outcome}
 use Rattle.flash_core.specs.Store.{Desk, Call}
 use Rattle.flash_core.specs.Calls.{is_dead_at, sweep, store_call, look_call, clock_call}
 use Rattle.flash_trace.specs.declared.command.Command.{Command}
@@ -27,7 +27,7 @@ swept_moment : (c : Cache) (desk : Desk) (key : List ℕ) → (sweep c desk key)
 swept_moment c desk key = cond_both (is_dead_at c (finite.get c.items key)) _ _ (λ (call : Call _). call.cache.now ≡ c.now) (λ dead. refl) (λ alive. refl)
 
 -- so does a store, refused or not
-stored_moment : (refusal : Option Stored) (c : Cache) (key : List ℕ) (item : Item) → (stored_or refusal c key item).1.now ≡ c.now
+stored_moment : (refusal : Option Stored) (c : Cache) (key : List ℕ) (item : Item) → (store_outcome refusal c key item).1.now ≡ c.now
 stored_moment None c key item = refl
 stored_moment (Some refusal) c key item = refl
 

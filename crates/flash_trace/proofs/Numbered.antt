@@ -31,10 +31,10 @@ IsBefore id e = IsEarlier id (step_id e)
 -- an entry of an earlier step alone
 of_earlier : (id own : Id) (ask : Ask) → IsEarlier id (Some own) → (e : Entry) → IsOf own ask e → IsBefore id e
 of_earlier id own ask earlier (entries.Did step done) of = subst (λ (s : Id). IsEarlier id (Some s)) (ap (λ (s : Id × Ask). s.0) (sym (of (step, done_ask done) refl))) earlier
-of_earlier id own ask earlier (entries.Looked step key look seen) of = subst (λ (s : Id). IsEarlier id (Some s)) (ap (λ (s : Id × Ask). s.0) (sym (of (step, asks.Look key look) refl))) earlier
+of_earlier id own ask earlier (entries.Looked step key look residence) of = subst (λ (s : Id). IsEarlier id (Some s)) (ap (λ (s : Id × Ask). s.0) (sym (of (step, asks.Look key look) refl))) earlier
 of_earlier id own ask earlier _ of = tt
 
--- a number is new behind the entries of an earlier step
+-- a number is new after the entries of an earlier step
 new_after : (h : List Entry) (id own : Id) (ask : Ask) (es : List Entry) → AreOf own ask es → IsEarlier id (Some own) → IsNew h id → IsNew (h ++ es) id
 new_after h id own ask es of earlier new = new_behind h id es new (all_map (IsOf own ask) (IsBefore id) (of_earlier id own ask earlier) es of)
 
@@ -50,7 +50,7 @@ module _ (pass seq more : ℕ) (le : seq ≤ more) where
     seq = all_map (IsBefore (record { pass = pass; seq = seq })) (IsBefore (record { pass = pass; seq = more })) (λ e earlier. earlier_more (step_id e) earlier) h new.seq;
   }
 
--- behind the entries of a pass's step its next number is new
+-- after the entries of a pass's step its next number is new
 next_new : (h : List Entry) (pass seq : ℕ) (ask : Ask) (es : List Entry) → AreOf (record { pass = pass; seq = seq }) ask es → IsNew h (record { pass = pass; seq = seq })
     → IsNew (h ++ es) (record { pass = pass; seq = seq + 1 })
 next_new h pass seq ask es of new =
@@ -69,7 +69,7 @@ abbrev pub plainly : Look
 plainly = record { value = true; renew = None }
 
 module _ (g : Geometry) (pass : ℕ) where
-  -- behind a command its session's next number is new
+  -- after a command its session's next number is new
   pub act_new : (state : StoreState × Seat) (command : Command) → IsNew state.0.journal (number_of pass state.1)
       → IsNew (act g pass state command).0.journal (number_of pass (act g pass state command).1)
   act_new state (Get key) new =

@@ -42,7 +42,7 @@ earlier_is_other id None earlier = tt
 earlier_is_other id (Some step) earlier = grind (arith, nat_tests, earlier)
 
 module _ (g : Geometry) (id : Id) where
-  -- the outcome from entries with more behind them
+  -- the outcome from entries with more after them
   pub outcome_from-append : (h : List Entry) (c : Cache) (xs ys : List Entry)
       → outcome_from g h c id (xs ++ ys) ≡ first_outcome (outcome_from g h c id xs) (outcome_from g (h ++ xs) (cache_from g h c xs) id ys)
   outcome_from-append h c [] ys = ap (λ (j : List Entry). outcome_from g j c id ys) (sym (append-nil h))
@@ -57,7 +57,7 @@ module _ (g : Geometry) (id : Id) where
   -- an entry of another step gives it no outcome
   entry_none : (h : List Entry) (c : Cache) (e : Entry) → IsOther id (step_id e) → entry_outcome h c id e ≡ None
   entry_none h c (entries.Did step done) other = cond-false (same_id step id) (Some (done_outcome done)) None other
-  entry_none h c (entries.Looked step key look seen) other = cond-false (same_id step id) (Some (found_outcome c look (live_item h c key))) None other
+  entry_none h c (entries.Looked step key look residence) other = cond-false (same_id step id) (Some (found_outcome c look (live_item h c key))) None other
   entry_none h c _ other = refl
 
   -- entries of other steps give it none

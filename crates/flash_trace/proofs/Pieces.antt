@@ -2,11 +2,11 @@
 use Rattle.std.proofs.Common.{◌≡◌, ℕ, true, List, [], ◌++◌, refl, sym, ◌∙◌, ap}
 use Rattle.std.proofs.lemmas.List.{append-nil}
 use Rattle.flash_trace.specs.declared.command.Command.{Command}
-use Rattle.flash_trace.specs.Commands.{Reader, Read, InLine, Ended, read_from, commands_of, has_ended}
+use Rattle.flash_trace.specs.Commands.{Reader, Read, InLine, Ended, read_from, commands_of, label_has_ended}
 use Rattle.flash_trace.proofs.Feeding.{read-append, ended}
 
 module _ (item_max : ℕ) where
-  -- these are the commands of the bytes, and the reader stands behind them
+  -- these are the commands of the bytes, and the reader is after them
   pub record IsRead (bytes : List ℕ) (commands : List Command) (reader : Reader) : Type 0 where
     pub commands_are : commands ≡ (commands_of item_max bytes).0
     pub reader_is : reader ≡ (commands_of item_max bytes).1
@@ -21,7 +21,7 @@ module _ (item_max : ℕ) where
         reader_is = (λ j. (read_from item_max (read.reader_is j) more).1) ∙ sym (ap (λ (r : Read). r.1) whole);
       }
 
-  -- a reader at its end stands where it stood
+  -- a reader at its end is where it was
   read_ended : (bytes more : List ℕ) (commands : List Command) → IsRead bytes commands Ended → IsRead (bytes ++ more) commands Ended
   read_ended bytes more commands read =
       let none = ended item_max more in
@@ -29,7 +29,7 @@ module _ (item_max : ℕ) where
       let after = read_more bytes more commands Ended read in
       record { commands_are = sym same ∙ after.commands_are; reader_is = sym (ap (λ (r : Read). r.1) none) ∙ after.reader_is }
 
-  pub read_at_end : (bytes more : List ℕ) (commands : List Command) (reader : Reader) → has_ended reader ≡ true → IsRead bytes commands reader → IsRead (bytes ++ more) commands reader
+  pub read_at_end : (bytes more : List ℕ) (commands : List Command) (reader : Reader) → label_has_ended reader ≡ true → IsRead bytes commands reader → IsRead (bytes ++ more) commands reader
   read_at_end bytes more commands Ended is read = read_ended bytes more commands read
   read_at_end bytes more commands _ is read = absurd (cc is)
 

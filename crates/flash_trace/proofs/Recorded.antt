@@ -12,13 +12,13 @@ use Rattle.flash_entry.specs.declared.entry.Done.TheVariants as deeds
 use Rattle.flash_entry.specs.declared.entry.Entry.{Entry}
 use Rattle.flash_entry.specs.declared.entry.Entry.TheVariants as entries
 use Rattle.flash_entry.specs.declared.found.Head.{Head}
-use Rattle.flash_entry.specs.declared.found.Found2.TheVariants as outcomes
+use Rattle.flash_entry.specs.declared.found.LookAnswer.TheVariants as outcomes
 use Rattle.flash_entry.specs.declared.found.Told.{Told}
 use Rattle.flash_entry.specs.declared.found.Told.TheVariants as told
 use Rattle.flash_machine.specs.Item.{Item}
 use Rattle.flash_machine.specs.Cache.{Cache}
 use Rattle.flash_machine.specs.Live.{live_item}
-use Rattle.flash_machine.specs.Looking.{head_of_item, seen_of}
+use Rattle.flash_machine.specs.Looking.{head_of_item, residence_of}
 use Rattle.flash_machine.specs.Steps.{cache_from}
 use Rattle.flash_core.specs.Store.{Desk, Call}
 use Rattle.flash_core.specs.Calls.{is_dead_at, sweep, found_of, store_call, look_call}
@@ -40,7 +40,7 @@ swept_outcome g h c desk key id =
     cond_both (is_dead_at c (finite.get c.items key)) _ _ (λ (call : Call _). outcome_from g h c id call.entries ≡ None) (λ dead. refl) (λ alive. refl)
 
 module _ (g : Geometry) (h : List Entry) (c : Cache) (desk : Desk) (id : Id) where
-  -- the outcome behind a sweep
+  -- the outcome after a sweep
   behind_sweep : (key : List ℕ) (e : Entry)
       → outcome_from g h c id ((sweep c desk key).entries ++ e ∷ [])
       ≡ outcome_from g (h ++ (sweep c desk key).entries) (cache_from g h c (sweep c desk key).entries) id (e ∷ [])
@@ -83,7 +83,7 @@ module _ (g : Geometry) (h : List Entry) (c : Cache) (desk : Desk) (id : Id) whe
       let swept = sweeps g h c desk key here in
       let j = h ++ s.entries in
       let live = finite.get s.cache.items key in
-      let own = entries.Looked id key look (seen_of live) in
+      let own = entries.Looked id key look (residence_of live) in
       let at : found_outcome (cache_from g h c s.entries) look (live_item j (cache_from g h c s.entries) key) ≡ found_outcome s.cache look live =
       ap (λ (d : Cache). found_outcome d look (live_item j d key)) swept.goes.makes ∙ ap (found_outcome s.cache look) (swept.live j) in
       record {

@@ -21,7 +21,7 @@ kept (b ∷ []) other = last_by b (b == 13) refl (other [])
 kept (b ∷ c ∷ cs) other =
     ap (λ (bytes : List ℕ). b ∷ bytes) (kept (c ∷ cs) (λ front is. other (b ∷ front) (ap (λ (bytes : List ℕ). b ∷ bytes) is)))
 
--- the line in front of that suffix, or the whole line where it has another
+-- the line before that suffix, or the whole line where it has another
 pub stripped : (line : Bor (List ℕ)) (front : Option (Bor (List ℕ))) → MatchOption front ((xs : List ℕ) → line.now ≢ xs ++ 13 ∷ []) (λ x. line.now ≡ x.now ++ 13 ∷ []) → (unwrap_or front line).now ≡ without_return line.now
 stripped line None other = sym (kept line.now other)
 stripped line (Some front) is = sym (ap without_return is ∙ dropped front.now)

@@ -142,7 +142,7 @@ module _ (g : Geometry) where
     abbrev after : StoreState × Seat
     after = act_all g session before (seat_at p session).waiting
 
-    -- what each session was given in front of its last turn
+    -- what each session was given before its last turn
     abbrev after_turn : ℕ → List ℕ
     after_turn other = if is_turn other (Run session) then given other else turned other
 
@@ -207,8 +207,8 @@ module _ (g : Geometry) where
   steps_hold p line (step ∷ steps) now given turned seated was =
       let more = λ (session : ℕ). if is_turn session step then given session else turned session in
       let after = steps_hold (play_step g p line step) (line + 1) steps (moment_with now step) (λ session. given session ++ bytes_for session step) more seated.1 (step_holds p line step now given turned seated.0 was) in
-      let behind = λ (session : ℕ). turned_behind session (given session) (turned session) (step ∷ steps) in
-      subst (λ (all : ℕ → List ℕ). Holds g (play_from g p line (step ∷ steps)) (moment_after now (step ∷ steps)) all behind) (λ j session. append_assoc (given session) (bytes_for session step) (bytes_to session steps) j) after
+      let with_more = λ (session : ℕ). turned_behind session (given session) (turned session) (step ∷ steps) in
+      subst (λ (all : ℕ → List ℕ). Holds g (play_from g p line (step ∷ steps)) (moment_after now (step ∷ steps)) all with_more) (λ j session. append_assoc (given session) (bytes_for session step) (bytes_to session steps) j) after
 
   -- before the first step
   first_holds : Holds g first_play 0 (λ session. []) (λ session. [])

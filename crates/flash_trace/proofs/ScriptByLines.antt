@@ -13,7 +13,7 @@ use Rattle.flash_trace.specs.declared.fault.ScriptFault.{ScriptFault}
 use Rattle.flash_trace.specs.Steps.{Step}
 use Rattle.flash_trace.specs.Scripts.{Script, Lines, lines_of, step_of, geometry_of, fault_or, too_long, steps_fault, lines_fault, fault_of, steps_of, script_of_parts, script_of_lines, script_of}
 use Rattle.flash_trace.specs.ScriptLaws.{IsOfLines, IsStepLine, HasBadLine, HasOpenLine}
-use Rattle.flash_trace.proofs.ScriptHead.{by_lines}
+use Rattle.flash_trace.proofs.ScriptGeometryLine.{by_lines}
 use Rattle.flash_trace.proofs.ScriptReadings.{good_line, good_step}
 
 -- a line that was read has no fault
@@ -21,7 +21,7 @@ pass_line : {A : Type 0} (line : ℕ) (r : Result A Why) (later : Option ScriptF
 pass_line line (Ok x) later good = refl
 pass_line line (Err why) later good = absurd (cc good)
 
--- a bad line behind good ones is the first fault
+-- a bad line after good ones is the first fault
 bad_behind : (line : ℕ) (good : List (List ℕ)) (bad : List ℕ) (more : List (List ℕ)) (rest : List ℕ) (why : Why) → line + length good ≤ 1048577
     → AllByRecursion IsStepLine good → step_of bad ≡ Err why → steps_fault line (good ++ bad ∷ more) rest ≡ Some (record { line = line + length good; why = why })
 bad_behind line [] bad more rest why few steps is =
@@ -57,7 +57,7 @@ bad_head bytes head more why small parts bad =
     by_lines bytes small ∙ ap (λ (whole : List (List ℕ)). lines_fault (record { whole = whole; rest = rest })) parts
     ∙ ap (λ (r : Result Geometry Why). fault_or 1 r (steps_fault 2 more rest)) bad
 
--- bytes behind good lines that no line feed ends
+-- bytes after good lines that no line feed ends
 open_behind : (line : ℕ) (good : List (List ℕ)) (first : ℕ) (more : List ℕ) → line + length good ≤ 1048577
     → AllByRecursion IsStepLine good → steps_fault line good (first ∷ more) ≡ Some (record { line = line + length good; why = Short })
 open_behind line [] first more few steps =
@@ -87,7 +87,7 @@ pub short_head : (bytes : List ℕ) → length bytes ≤ 16777216 → (lines_of 
 short_head bytes small none =
     by_lines bytes small ∙ ap (λ (whole : List (List ℕ)). lines_fault (record { whole = whole; rest = (lines_of bytes).rest })) none
 
--- lines without a fault: nothing stands behind the last one, and they aren't too many
+-- lines without a fault: nothing is after the last one, and they aren't too many
 record IsWhole (line : ℕ) (lines : List (List ℕ)) (rest : List ℕ) : Type 0 where
   ended : rest ≡ []
   few : line + length lines ≤ 1048578
@@ -109,8 +109,8 @@ whole_lines line [] (b ∷ rest) few none = absurd (no_rest line b rest (nat_lt 
 whole_lines line (text ∷ more) rest few none =
     let good = good_step line (nat_lt 1048577 line) (step_of text) (steps_fault (line + 1) more rest) none in
     let here = not_many line (nat_lt 1048577 line) (fault_or line (step_of text) (steps_fault (line + 1) more rest)) refl none in
-    let behind = whole_lines (line + 1) more rest (omega arith) good.more in
-    record { ended = behind.ended; few = omega (arith, behind.few) }
+    let with_more = whole_lines (line + 1) more rest (omega arith) good.more in
+    record { ended = with_more.ended; few = omega (arith, with_more.few) }
 
 -- the steps of lines are those of each
 each_more : (r : Result Step Why) (more : Option (List Step)) (rs : List (Result Step Why)) (steps : List Step) → ((all : List Step) → more ≡ Some all → rs ≡ map Ok all)

@@ -17,72 +17,72 @@ abbrev pub lines_cut : List ℕ → Option (List ℕ × List ℕ) → Lines
 lines_cut bytes None = record { whole = []; rest = bytes }
 lines_cut bytes (Some parts) = record { whole = parts.0 ∷ (lines_of parts.1).whole; rest = (lines_of parts.1).rest }
 
--- a byte in front of bytes that are cut
-abbrev in_front : ℕ → Option (List ℕ × List ℕ) → Option (List ℕ × List ℕ)
-in_front b cut = option_map (λ parts. (b ∷ parts.0, parts.1)) cut
+-- a byte before bytes that are cut
+abbrev with_front : ℕ → Option (List ℕ × List ℕ) → Option (List ℕ × List ℕ)
+with_front b cut = option_map (λ parts. (b ∷ parts.0, parts.1)) cut
 
--- a byte in front of the first line
-lines_in_front : (b : ℕ) (bytes : List ℕ) (cut : Option (List ℕ × List ℕ)) → in_first_line b (lines_cut bytes cut) ≡ lines_cut (b ∷ bytes) (in_front b cut)
+-- a byte before the first line
+lines_in_front : (b : ℕ) (bytes : List ℕ) (cut : Option (List ℕ × List ℕ)) → in_first_line b (lines_cut bytes cut) ≡ lines_cut (b ∷ bytes) (with_front b cut)
 lines_in_front b bytes None = refl
 lines_in_front b bytes (Some parts) = refl
 
 -- a line feed or another byte in front
 by_test : (b : ℕ) (bytes : List ℕ) (feed : Bool) (cut : Option (List ℕ × List ℕ)) (lines : Lines) → lines ≡ lines_cut bytes cut
     → (if feed then record { whole = [] ∷ (lines_of bytes).whole; rest = (lines_of bytes).rest } else in_first_line b lines)
-    ≡ lines_cut (b ∷ bytes) (if feed then Some ([], bytes) else in_front b cut)
+    ≡ lines_cut (b ∷ bytes) (if feed then Some ([], bytes) else with_front b cut)
 by_test b bytes true cut lines is = refl
 by_test b bytes false cut lines is = ap (in_first_line b) is ∙ lines_in_front b bytes cut
 
--- the lines of bytes: the first one, and those of what stands behind it
+-- the lines of bytes: the first one, and those of what is after it
 pub lines-cut : (bytes : List ℕ) → lines_of bytes ≡ lines_cut bytes (cut_at 10 bytes)
 lines-cut [] = refl
 lines-cut (b ∷ bytes) = by_test b bytes (b == 10) (cut_at 10 bytes) (lines_of bytes) (lines-cut bytes)
 
 -- bytes that are cut are their parts, with the byte between
-pub cut_joins : (c : ℕ) (bytes front behind : List ℕ) → Some (front, behind) ≡ cut_at c bytes → bytes ≡ front ++ c ∷ behind
-cut_joins c bytes front behind is = (cut_there c bytes front behind (sym is)).whole
+pub cut_joins : (c : ℕ) (bytes front with_more : List ℕ) → Some (front, with_more) ≡ cut_at c bytes → bytes ≡ front ++ c ∷ with_more
+cut_joins c bytes front with_more is = (cut_there c bytes front with_more (sym is)).whole
 
-module _ (bytes : List ℕ) (start : ℕ) (text behind : List ℕ) (cut : Some (text, behind) ≡ cut_at 10 (drop start bytes)) where
+module _ (bytes : List ℕ) (start : ℕ) (text with_more : List ℕ) (cut : Some (text, with_more) ≡ cut_at 10 (drop start bytes)) where
   -- the first line from a place on, as the code takes it
   pub line_is : slice_range bytes start (start + length text) ≡ text
   line_is =
       let size : start + length text - start ≡ length text = omega arith in
-      ap (λ (n : ℕ). take n (drop start bytes)) size ∙ ap (take (length text)) (cut_joins 10 (drop start bytes) text behind cut) ∙ take_at text (10 ∷ behind) (length text) refl
+      ap (λ (n : ℕ). take n (drop start bytes)) size ∙ ap (take (length text)) (cut_joins 10 (drop start bytes) text with_more cut) ∙ take_at text (10 ∷ with_more) (length text) refl
 
-  -- and what stands behind its line feed
-  pub behind_is : drop (start + length text + 1) bytes ≡ behind
+  -- and what is after its line feed
+  pub behind_is : drop (start + length text + 1) bytes ≡ with_more
   behind_is =
       let size : start + length text + 1 ≡ start + (length text + 1) = omega arith in
-      ap (λ (n : ℕ). drop n bytes) size ∙ sym (drop-drop (length text + 1) start bytes) ∙ ap (drop (length text + 1)) (cut_joins 10 (drop start bytes) text behind cut ∙ sym (append_assoc text (10 ∷ []) behind))
-      ∙ drop_at (text ++ 10 ∷ []) behind (length text + 1) (length-append text (10 ∷ []))
+      ap (λ (n : ℕ). drop n bytes) size ∙ sym (drop-drop (length text + 1) start bytes) ∙ ap (drop (length text + 1)) (cut_joins 10 (drop start bytes) text with_more cut ∙ sym (append_assoc text (10 ∷ []) with_more))
+      ∙ drop_at (text ++ 10 ∷ []) with_more (length text + 1) (length-append text (10 ∷ []))
 
   -- how the code cuts the bytes from a place on
   pub cut_is : cut_at 10 (drop start bytes) ≡ Some (slice_range bytes start (start + length text + 1 - 1), drop (start + length text + 1) bytes)
   cut_is =
       let size : start + length text + 1 - 1 ≡ start + length text = omega arith in
       let line : slice_range bytes start (start + length text + 1 - 1) ≡ text = ap (slice_range bytes start) size ∙ line_is in
-      sym cut ∙ ap (λ (l : List ℕ). Some (l, behind)) (sym line) ∙ ap (λ (l : List ℕ). Some (slice_range bytes start (start + length text + 1 - 1), l)) (sym behind_is)
+      sym cut ∙ ap (λ (l : List ℕ). Some (l, with_more)) (sym line) ∙ ap (λ (l : List ℕ). Some (slice_range bytes start (start + length text + 1 - 1), l)) (sym behind_is)
 
   -- a first line that can't be read
   pub bad_line : (why : Why) → step_of (slice_range bytes start (start + length text)) ≡ Err why → first_fault (cut_at 10 (drop start bytes)) ≡ Some why
   bad_line why is = ap first_fault (sym cut) ∙ ap (λ (l : List ℕ). result_err (step_of l)) (sym line_is) ∙ ap result_err is
 
-module _ (bytes text behind : List ℕ) (cut : cut_at 10 bytes ≡ Some (text, behind)) (step : Step) (read : step_of text ≡ Ok step) where
+module _ (bytes text with_more : List ℕ) (cut : cut_at 10 bytes ≡ Some (text, with_more)) (step : Step) (read : step_of text ≡ Ok step) where
   -- the lines, by their first one
-  lines_first : lines_of bytes ≡ record { whole = text ∷ (lines_of behind).whole; rest = (lines_of behind).rest }
+  lines_first : lines_of bytes ≡ record { whole = text ∷ (lines_of with_more).whole; rest = (lines_of with_more).rest }
   lines_first = lines-cut bytes ∙ ap (lines_cut bytes) cut
 
-  -- where the first line is a step, it stands in front of the steps of the others
-  pub steps_more : steps_of (lines_of bytes).whole ≡ option_map (λ more. step ∷ more) (steps_of (lines_of behind).whole)
+  -- where the first line is a step, it is before the steps of the others
+  pub steps_more : steps_of (lines_of bytes).whole ≡ option_map (λ more. step ∷ more) (steps_of (lines_of with_more).whole)
   steps_more =
-      let behind_steps = steps_of (lines_of behind).whole in
+      let behind_steps = steps_of (lines_of with_more).whole in
       ap (λ (lines : Lines). steps_of lines.whole) lines_first
       ∙ ap (λ (r : Result Step Why). option_and_then (λ s. option_map (λ steps. s ∷ steps) behind_steps) (result_ok r)) read
 
   -- and the first fault is one of theirs
-  pub fault_more : (line : ℕ) → line ≤ 1048577 → fault_from line bytes ≡ fault_from (line + 1) behind
+  pub fault_more : (line : ℕ) → line ≤ 1048577 → fault_from line bytes ≡ fault_from (line + 1) with_more
   fault_more line few =
-      let later = fault_from (line + 1) behind in
+      let later = fault_from (line + 1) with_more in
       let in_range : nat_lt 1048577 line ≡ false = grind (arith, nat_tests) in
       ap (λ (lines : Lines). steps_fault line lines.whole lines.rest) lines_first ∙ ap (λ b. if b then too_long else fault_or line (step_of text) later) in_range
       ∙ ap (λ (r : Result Step Why). fault_or line r later) read
@@ -118,7 +118,7 @@ full_lines line [] [] many some = absurd (omega arith)
 full_lines line [] (b ∷ rest) many some = ap (λ t. if t then too_long else Some (record { line = line; why = Short })) many
 full_lines line (text ∷ more) rest many some = ap (λ t. if t then too_long else fault_or line (step_of text) (steps_fault (line + 1) more rest)) many
 
--- some bytes have a line, or stand behind the last line feed
+-- some bytes have a line, or are after the last line feed
 some_lines : (bytes : List ℕ) (cut : Option (List ℕ × List ℕ)) → 0 < length bytes → 0 < length (lines_cut bytes cut).whole + length (lines_cut bytes cut).rest
 some_lines bytes None some = omega arith
 some_lines bytes (Some parts) some = omega arith

@@ -15,12 +15,12 @@ use Rattle.flash_trace.specs.declared.script.StepWord.TheVariants as begins
 use Rattle.flash_trace.specs.Steps.{Step, Clock, Say, Run, IsSession, IsSeated, AreSeated}
 use Rattle.flash_trace.specs.Scripts.{Script, Lines, lines_of, behind_word, session_of, step_word, step_of_word, step_of_words, step_of, geometry_of, fault_or, too_long, steps_fault, lines_fault, fault_of, steps_of, script_of_parts, script_of_lines, script_of}
 
--- a line without a fault, and none behind it
+-- a line without a fault, and none after it
 pub record IsGood {A : Type 0} (r : Result A Why) (later : Option ScriptFault) : Type 0 where
   pub one : is_ok r ≡ true
   pub more : later ≡ None
 
--- no fault on a line and behind it
+-- no fault on a line and after it
 pub good_line : {A : Type 0} (line : ℕ) (r : Result A Why) (later : Option ScriptFault) → fault_or line r later ≡ None → IsGood r later
 good_line line (Ok x) later none = record { one = refl; more = none }
 good_line line (Err why) later none = absurd (cc none)
@@ -30,7 +30,7 @@ pub good_step : (line : ℕ) (many : Bool) (r : Result Step Why) (later : Option
 good_step line true r later none = absurd (cc none)
 good_step line false r later none = good_line line r later none
 
--- a step and the steps behind it
+-- a step and the steps after it
 some_step : (r : Result Step Why) (rest : Option (List Step)) → is_ok r ≡ true → is_some rest ≡ true → is_some (option_and_then (λ step. option_map (λ steps. step ∷ steps) rest) (result_ok r)) ≡ true
 some_step (Err why) rest one more = absurd (cc one)
 some_step (Ok step) None one more = absurd (cc more)
@@ -43,7 +43,7 @@ steps_read line (text ∷ more) rest none =
     let good = good_step line (nat_lt 1048577 line) (step_of text) (steps_fault (line + 1) more rest) none in
     some_step (step_of text) (steps_of more) good.one (steps_read (line + 1) more rest good.more)
 
--- a first line and the steps behind it
+-- a first line and the steps after it
 some_script : (head : List ℕ) (r : Result Geometry Why) (steps : Option (List Step)) → is_ok r ≡ true → is_some steps ≡ true → is_some (script_of_parts head (result_ok r) steps) ≡ true
 some_script head (Err why) steps one more = absurd (cc one)
 some_script head (Ok g) None one more = absurd (cc more)

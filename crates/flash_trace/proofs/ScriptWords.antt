@@ -1,21 +1,21 @@
--- What stands behind the words of a line.
+-- What is after the words of a line.
 use Rattle.std.proofs.Common.{◌≡◌, ℕ, ◌+◌, ◌-◌, ◌≤◌, Bool, true, false, ◌==◌, List, [], ◌∷◌, ◌++◌, length, take, drop, if◌then◌else◌, slice_range, refl, sym, ◌∙◌, ap, arith, append_assoc, length-append, length-take-le, length-drop, take-add, drop_at}
 use Rattle.std.proofs.lemmas.Bool.Decides.{nat_tests}
 use Rattle.std.proofs.lemmas.Slice.{between_is}
 use Rattle.flash_names.specs.Words.{words, in_first}
 use Rattle.flash_trace.specs.Scripts.{behind_word}
 
--- words with a space in front of each
+-- words with a space before each
 abbrev spaced : List (List ℕ) → List ℕ
 spaced [] = []
 spaced (w ∷ ws) = 32 ∷ (w ++ spaced ws)
 
--- a byte in front of the first of these words
+-- a byte before the first of these words
 spaced_first : (b : ℕ) (bytes : List ℕ) (ws : List (List ℕ)) → spaced ws ≡ 32 ∷ bytes → spaced (in_first b ws) ≡ 32 ∷ b ∷ bytes
 spaced_first b bytes [] is = absurd (cc is)
 spaced_first b bytes (w ∷ ws) is = let tail : w ++ spaced ws ≡ bytes = cc in cc
 
--- a byte in front of a line
+-- a byte before a line
 spaced_more : (b : ℕ) (bytes : List ℕ) (space : Bool) → (b == 32) ≡ space → spaced (words bytes) ≡ 32 ∷ bytes
     → spaced (if space then [] ∷ words bytes else in_first b (words bytes)) ≡ 32 ∷ b ∷ bytes
 spaced_more b bytes true test rest = let same : b ≡ 32 = grind (arith, nat_tests) in cc
@@ -34,7 +34,7 @@ words_same a b same = let e = ap spaced same in let p = spaced-words a in let q 
 pub no_words : (bytes : List ℕ) → words bytes ≡ [] → ⊥
 no_words bytes none = let e = ap spaced none in let p = spaced-words bytes in cc
 
--- that these words stand behind the first one of the line means that their bytes stand behind its first space
+-- that these words are after the first one of the line means that their bytes are after its first space
 abbrev BehindFirst : List ℕ → Type 0
 BehindFirst line = (word rest : List ℕ) → words line ≡ word ∷ words rest → behind_word line ≡ rest
 
@@ -58,17 +58,17 @@ behind_first (b ∷ bytes) word rest is = behind_more b bytes word rest (b == 32
 abbrev pub IsEnd : List ℕ → List ℕ → Type 0
 IsEnd ending bytes = (front : List ℕ) × (bytes ≡ front ++ ending)
 
--- what stands behind the first space, with a byte in front of the line
+-- what is after the first space, with a byte before the line
 end_more : (b : ℕ) (bytes : List ℕ) (space : Bool) → IsEnd (behind_word bytes) bytes → IsEnd (if space then bytes else behind_word bytes) (b ∷ bytes)
 end_more b bytes true more = (b ∷ [], refl)
 end_more b bytes false more = (b ∷ more.0, ap (λ (l : List ℕ). b ∷ l) more.1)
 
--- what stands behind the first space ends the line
+-- what is after the first space ends the line
 end_behind : (line : List ℕ) → IsEnd (behind_word line) line
 end_behind [] = ([], refl)
 end_behind (b ∷ bytes) = end_more b bytes (b == 32) (end_behind bytes)
 
--- what stands behind the second space ends the line
+-- what is after the second space ends the line
 pub end_twice : (line : List ℕ) → IsEnd (behind_word (behind_word line)) line
 end_twice line =
     let outer = end_behind line in let inner = end_behind (behind_word line) in
@@ -86,7 +86,7 @@ module _ (bytes ending : List ℕ) (start last : ℕ) (order : start ≤ last) (
       ap (λ (n : ℕ). take n bytes) parts ∙ take-add start (last - start) bytes ∙ ap (λ (l : List ℕ). take start bytes ++ l) e.1
       ∙ sym (append_assoc (take start bytes) e.0 ending)
 
-  -- and stands in front of the second place
+  -- and is before the second place
   pub end_between : slice_range bytes (last - length ending) last ≡ ending
   end_between =
       between_is bytes (last - length ending) last ∙ ap (drop (last - length ending)) split

@@ -25,7 +25,7 @@ use Rattle.flash_trace.proofs.Lists.{all_map, get-front, get-seam}
 use Rattle.flash_trace.proofs.Recorded.{Records}
 use Rattle.flash_trace.proofs.Answering.{answers_same, answers_from-append}
 
--- the session was answered this for these commands, has done so many steps, and each of them stands in the journal,
+-- the session was answered this for these commands, has done so many steps, and each of them is in the journal,
 -- and no other of it
 pub record IsServed (g : Geometry) (pass : ℕ) (journal : List Entry) (done : List Command) (last : ℕ) (said : List ℕ) : Type 0 where
   pub said_is : said ≡ concat (answers g done pass journal)
@@ -55,7 +55,7 @@ module _ (g : Geometry) (pass : ℕ) where
   answers_stay h es done last said was =
       answers_same g pass h (h ++ es) done 1 (λ n from to. ap or_no_memory (sym (outcome_stays g pass n h es (was.known n from (omega (arith, was.last_is))))))
 
-  -- entries behind that record no other step of it
+  -- entries after that record no other step of it
   pub served_behind : (h es : List Entry) (done : List Command) (last : ℕ) (said : List ℕ) → KeepsTo pass (asks_of done) es → IsServed g pass h done last said → IsServed g pass (h ++ es) done last said
   served_behind h es done last said keeps was = record {
     said_is = was.said_is ∙ ap concat (answers_stay h es done last said was);
@@ -122,7 +122,7 @@ module _ (g : Geometry) (pass : ℕ) where
     | inr other ↦ known seq from (omega (arith, other))
   ]
 
-  -- a command with a step, which the entries behind record
+  -- a command with a step, which the entries after record
   pub served_step : (h es : List Entry) (c : Cache) (done : List Command) (last : ℕ) (said : List ℕ) (command : Command) (ask : Ask) (told : Told)
       → c ≡ cache_of g h → IsNew h (record { pass = pass; seq = last + 1 }) → Records g h c (record { pass = pass; seq = last + 1 }) ask told es → ask_of command ≡ Some ask
       → IsServed g pass h done last said → IsServed g pass (h ++ es) (done ++ command ∷ []) (last + 1) (said ++ step_text command told)

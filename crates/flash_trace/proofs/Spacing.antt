@@ -34,12 +34,12 @@ by_space b bytes true is rest =
     ∙ sym (ap (λ (space : Bool). filter (λ w. not (nat_eq (length w) 0)) (if space then [] ∷ words bytes else in_first b (words bytes))) is)
 by_space b bytes false is rest = refl
 
--- the words behind the leading spaces are those of the line
+-- the words after the leading spaces are those of the line
 pub behind_spaces : (bytes : List ℕ) → spaced_words (drop (spaces bytes) bytes) ≡ spaced_words bytes
 behind_spaces [] = refl
 behind_spaces (b ∷ bytes) = by_space b bytes (b == 32) refl (behind_spaces bytes)
 
--- what stands there begins with another byte
+-- what is there begins with another byte
 abbrev pub BeginsAWord : List ℕ → Type 0
 BeginsAWord [] = Unit {0}
 BeginsAWord (b ∷ bytes) = (b == 32) ≡ false
@@ -74,7 +74,7 @@ next_at b bytes word rest other is =
     let first : in_first b (words bytes) ≡ word ∷ words_if rest = sym (ap (λ (space : Bool). if space then [] ∷ words bytes else in_first b (words bytes)) other) ∙ is in
     ap (filter is_word) is ∙ kept_first word (words_if rest) (first_has_bytes b (words bytes) word (words_if rest) first) ∙ ap (λ (ws : List (List ℕ)). word ∷ ws) (words_behind rest)
 
--- what begins with a word has that word, and those of what stands behind it
+-- what begins with a word has that word, and those of what is after it
 pub next_word : (bytes word : List ℕ) (rest : Option (List ℕ)) → 1 ≤ length bytes → BeginsAWord bytes → words bytes ≡ word ∷ words_if rest → spaced_words bytes ≡ word ∷ spaced_words (unwrap_or rest [])
 next_word [] word rest some begins is = absurd (omega arith)
 next_word (b ∷ bytes) word rest some begins is = next_at b bytes word rest begins is

@@ -17,7 +17,7 @@ has_more : (begin : StepWord) (number text said : List ℕ) (ws : List (List ℕ
 has_more begin number text said [] r here each = absurd (no_words said here)
 has_more begin number text said (w ∷ ws) r here each = each w ws
 
--- the words of a part behind a space
+-- the words of a part after a space
 behind_space : (bytes word : List ℕ) (rest : Option (Bor (List ℕ))) (r : Bor (List ℕ)) → words bytes ≡ word ∷ words_if (option_map (λ x. x.now) rest) → rest ≡ Some r
     → words bytes ≡ word ∷ words r.now
 behind_space bytes word rest r is here = is ∙ ap (λ (o : Option (Bor (List ℕ))). word ∷ words_if (option_map (λ x. x.now) o)) here

@@ -31,7 +31,7 @@ set_twice (x ∷ xs) zero first second = refl
 set_twice (x ∷ xs) (suc i) first second = ap (λ (l : List _). x ∷ l) (set_twice xs i first second)
 
 module _ (seats : List (Option code.Seat)) (number place : ℕ) (counted : place + 1 ≡ number) where
-  -- the session that stands at a number's place
+  -- the session that is at a number's place
   at_place : (made : Option code.Seat) → length seats ≡ 16 → place < 16 → made ≡ slice_index_or seats place made → slice_get seats (number - 1) ≡ Some made
   at_place made sixteen within is =
       let there : place ≡ number - 1 = omega (arith, counted) in
@@ -95,7 +95,7 @@ module _ (g : Geometry) (p : Play) (line number : ℕ) (bytes : List ℕ) (seat 
   abbrev pub printed_if : Bool → List ℕ
   printed_if taken = if taken then p.printed else p.printed ++ codes "closed" ++ 32 ∷ decimal line ++ 10 ∷ []
 
-  -- the trace behind the step, by the session behind it
+  -- the trace after the step, by the session after it
   abbrev pub heard_if : Bool → Seat → Play
   heard_if taken new = record p { printed = printed_if taken; seats = slice_set p.seats (number - 1) (Some new) }
 

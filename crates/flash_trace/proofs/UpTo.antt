@@ -6,19 +6,19 @@ use Rattle.flash_names.specs.declared.geometry.Geometry.{Geometry}
 use Rattle.flash_entry.specs.declared.entry.Entry.{Entry}
 use Rattle.flash_trace.specs.declared.command.Command.{Command}
 use Rattle.flash_trace.specs.Answers.{answers, asks_of, Keeps, IsAnswered}
-use Rattle.flash_trace.specs.Commands.{commands_of, read_from, has_ended}
+use Rattle.flash_trace.specs.Commands.{commands_of, read_from, label_has_ended}
 use Rattle.flash_trace.specs.Playing.{Seat, new_seat, fed}
 use Rattle.flash_trace.proofs.Pieces.{IsRead, read_more, read_at_end, read_none}
 use Rattle.flash_trace.proofs.Served.{IsServed}
 
--- a session that was given these bytes, and `turns` of them in front of its last turn, has read their commands, has
--- done those of `turns`, which stand in front of the ones that wait, and was answered for them
+-- a session that was given these bytes, and `turns` of them before its last turn, has read their commands, has
+-- done those of `turns`, which are before the ones that wait, and was answered for them
 pub record IsUpTo (g : Geometry) (session : ℕ) (bytes turns : List ℕ) (journal : List Entry) (seat : Seat) : Type 0 where
   pub done : List Command
   pub done_are : done ≡ (commands_of g.item_max turns).0
   pub read : IsRead g.item_max bytes (done ++ seat.waiting) seat.reader
   pub served : IsServed g session journal done seat.last seat.said
-  pub ended : IsTrue seat.closed → IsTrue (has_ended seat.reader)
+  pub ended : IsTrue seat.closed → IsTrue (label_has_ended seat.reader)
 
 module _ (g : Geometry) where
   -- no bytes more

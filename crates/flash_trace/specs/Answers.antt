@@ -11,7 +11,7 @@ use Rattle.flash_entry.specs.declared.entry.Done.{Done}
 use Rattle.flash_entry.specs.declared.entry.Done.TheVariants as deeds
 use Rattle.flash_entry.specs.declared.entry.Entry.{Entry}
 use Rattle.flash_entry.specs.declared.entry.Entry.TheVariants as entries
-use Rattle.flash_entry.specs.declared.found.Found2.TheVariants as found
+use Rattle.flash_entry.specs.declared.found.LookAnswer.TheVariants as found
 use Rattle.flash_entry.specs.declared.found.Told.{Told}
 use Rattle.flash_entry.specs.declared.found.Told.TheVariants as told
 use Rattle.flash_machine.specs.Item.{Item}
@@ -22,7 +22,7 @@ use Rattle.flash_machine.specs.Legal.{Legal}
 use Rattle.flash_machine.specs.Steps.{next, cache_of}
 use Rattle.flash_trace.specs.declared.command.Command.{Command}
 use Rattle.flash_trace.specs.declared.command.Command.TheVariants.{Get, Store, Refused}
-use Rattle.flash_trace.specs.Commands.{commands_of, has_ended}
+use Rattle.flash_trace.specs.Commands.{commands_of, label_has_ended}
 use Rattle.flash_trace.specs.Playing.{Seat, seat_at, play_of}
 use Rattle.flash_trace.specs.Replies.{step_text, plain_text}
 use Rattle.flash_trace.specs.Steps.{Step, Clock, Say, Run, IsSession, AreSeated}
@@ -47,7 +47,7 @@ done_outcome (deeds.Stats tally) = told.Tally tally
 -- the outcome that an entry gives the step of this number, if it is that step's
 abbrev pub entry_outcome : List Entry → Cache → Id → Entry → Option Told
 entry_outcome journal c id (entries.Did other done) = if same_id other id then Some (done_outcome done) else None
-entry_outcome journal c id (entries.Looked other key look seen) = if same_id other id then Some (found_outcome c look (live_item journal c key)) else None
+entry_outcome journal c id (entries.Looked other key look residence) = if same_id other id then Some (found_outcome c look (live_item journal c key)) else None
 entry_outcome journal c id _ = None
 
 -- the first of two outcomes that is there
@@ -55,7 +55,7 @@ abbrev pub first_outcome : Option Told → Option Told → Option Told
 first_outcome None later = later
 first_outcome (Some outcome) later = Some outcome
 
--- the outcome of a step, from the entries behind a journal, if one of them is its own
+-- the outcome of a step, from the entries after a journal, if one of them is its own
 abbrev pub outcome_from : Geometry → List Entry → Cache → Id → List Entry → Option Told
 outcome_from g journal c id [] = None
 outcome_from g journal c id (e ∷ es) = first_outcome (entry_outcome journal c id e) (outcome_from g (journal ++ e ∷ []) (next g journal c e) id es)
@@ -83,7 +83,7 @@ ask_of (Refused refusal) = None
 abbrev pub asks_of : List Command → List Ask
 asks_of commands = filter_map ask_of commands
 
--- the replies of a command and of those behind it, whose first step has this number
+-- the replies of a command and of those after it, whose first step has this number
 abbrev pub reply_to : Geometry → ℕ → ℕ → List Entry → Command → Option Ask → (ℕ → List (List ℕ)) → List (List ℕ)
 reply_to g pass seq journal command None rest = plain_text command ∷ rest seq
 reply_to g pass seq journal command (Some ask) rest = step_text command (outcome g pass seq journal) ∷ rest (seq + 1)
@@ -107,7 +107,7 @@ done_ask (deeds.Stats tally) = asks.Stats
 
 abbrev pub entry_ask : Entry → Option (Id × Ask)
 entry_ask (entries.Did id done) = Some (id, done_ask done)
-entry_ask (entries.Looked id key look seen) = Some (id, asks.Look key look)
+entry_ask (entries.Looked id key look residence) = Some (id, asks.Look key look)
 entry_ask _ = None
 
 -- where the step is one of the pass, it has the number and the ask of one of these
@@ -136,13 +136,13 @@ is_turn session _ = false
 abbrev pub has_turn : ℕ → List Step → Bool
 has_turn session steps = list_any (is_turn session) steps
 
--- the bytes that a script gives to a session in front of its last turn: those that have a turn behind them
+-- the bytes that a script gives to a session before its last turn: those that have a turn after them
 abbrev pub bytes_in_turns : ℕ → List Step → List ℕ
 bytes_in_turns session [] = []
 bytes_in_turns session (step ∷ steps) = (if has_turn session steps then bytes_for session step else []) ++ bytes_in_turns session steps
 
--- What a session was answered, where it was given these bytes, and `turns` of them in front of its last turn: its
--- reader has read them all; each command in `turns` is done, and those that the other bytes end wait behind them; the
+-- What a session was answered, where it was given these bytes, and `turns` of them before its last turn: its
+-- reader has read them all; each command in `turns` is done, and those that the other bytes end wait after them; the
 -- replies to the commands that are done, in order, none left out, are what it was answered; each of their steps has an
 -- entry in the journal; the journal has no other steps of it; and it is closed only where its bytes end it
 pub record IsAnswered (g : Geometry) (session : ℕ) (bytes turns : List ℕ) (journal : List Entry) (seat : Seat) : Type 0 where
@@ -151,7 +151,7 @@ pub record IsAnswered (g : Geometry) (session : ℕ) (bytes turns : List ℕ) (j
   pub said : seat.said ≡ concat (answers g (commands_of g.item_max turns).0 session journal)
   pub known : (seq : ℕ) → 1 ≤ seq → seq ≤ length (asks_of (commands_of g.item_max turns).0) → IsKnown g session seq journal
   pub keeps : Keeps (commands_of g.item_max turns).0 session journal
-  pub ended : IsTrue seat.closed → IsTrue (has_ended seat.reader)
+  pub ended : IsTrue seat.closed → IsTrue (label_has_ended seat.reader)
 
 -- the moment of a store after steps: the greatest reading of the clock, which counts up to 2^62
 abbrev pub moment_with : ℕ → Step → ℕ

@@ -39,7 +39,7 @@ IsWithin size (code.Run session) = Unit {0}
 abbrev pub AreWithin : ℕ → List code_step.Step → Type 0
 AreWithin size steps = AllByRecursion (IsWithin size) steps
 
--- a script wasn't read because of this fault, or for want of memory
+-- a script wasn't read because of this fault, or because memory ran out
 abbrev pub IsFault : Option ScriptFault → NotRead → Type 0
 IsFault found (Fault fault) = found ≡ Some fault
 IsFault found NoMemory = Unit {0}

@@ -11,8 +11,8 @@ use Rattle.flash_trace.specs.declared.line.Line.{Line}
 use Rattle.flash_trace.specs.declared.line.Line.TheVariants as lines
 use Rattle.flash_trace.specs.Lines.{line_of}
 
--- where the reader stands: in a line; in a block; behind one, where a line end has to stand; in what is skipped
--- behind a bad data chunk; or at its end
+-- where the reader is: in a line; in a block; after one, where a line end has to be; in what is skipped
+-- after a bad data chunk; or at its end
 pub data Reader : Type 0 where
   InLine : List ℕ → Reader
   InBlock : SetLine → List ℕ → Reader
@@ -20,11 +20,11 @@ pub data Reader : Type 0 where
   Skipping : ℕ → Reader
   Ended : Reader
 
--- the commands that were read, and where the reader stands
+-- the commands that were read, and where the reader is
 abbrev pub Read : Type 0
 Read = List Command × Reader
 
--- the reader in front of a block: one of no bytes is whole at once
+-- the reader before a block: one of no bytes is whole at once
 abbrev pub block_of : SetLine → Reader
 block_of line = if nat_eq line.size 0 then Behind line [] [] else InBlock line []
 
@@ -43,7 +43,7 @@ in_line item_max line b =
 abbrev pub in_skip : ℕ → ℕ → Reader
 in_skip skipped b = if b == 10 then InLine [] else if nat_lt (skipped + 1) 65536 then Skipping (skipped + 1) else Ended
 
--- the two bytes behind a bad block: the skip begins with them, and what stands behind its end is a line
+-- the two bytes after a bad block: the skip begins with them, and what is after its end is a line
 abbrev pub after_skip : ℕ → Reader → ℕ → Read
 after_skip item_max (InLine line) b = in_line item_max line b
 after_skip item_max (Skipping n) b = ([], in_skip n b)
@@ -56,7 +56,7 @@ bad_chunk read = (commands.Refused refusals.BadChunk ∷ read.0, read.1)
 abbrev pub put_of : SetLine → List ℕ → Put
 put_of line block = record { key = line.key; mode = modes.Set; flags = line.flags; exptime = line.exptime; compare = None; value = block }
 
--- the second byte behind a block
+-- the second byte after a block
 abbrev pub behind_block : ℕ → SetLine → List ℕ → ℕ → ℕ → Read
 behind_block item_max line block a b =
     if (a == 13) && (b == 10) then (commands.Store (put_of line block) ∷ [], InLine []) else bad_chunk (after_skip item_max (in_skip 0 a) b)
@@ -73,17 +73,17 @@ read_byte item_max (Behind line block two) b = behind_byte item_max line block t
 read_byte item_max (Skipping n) b = ([], in_skip n b)
 read_byte item_max Ended b = ([], Ended)
 
--- the commands of more bytes, from where the reader stands
+-- the commands of more bytes, from where the reader is
 abbrev pub read_from : ℕ → Reader → List ℕ → Read
 read_from item_max r [] = ([], r)
 read_from item_max r (b ∷ bytes) =
     let first = read_byte item_max r b in let rest = read_from item_max first.1 bytes in (first.0 ++ rest.0, rest.1)
 
--- the commands of a session's bytes, and where the reader stands behind them
+-- the commands of a session's bytes, and where the reader is after them
 abbrev pub commands_of : ℕ → List ℕ → Read
 commands_of item_max bytes = read_from item_max (InLine []) bytes
 
 -- whether the reader has met an end: nothing more is read
-abbrev pub has_ended : Reader → Bool
-has_ended Ended = true
-has_ended _ = false
+abbrev pub label_has_ended : Reader → Bool
+label_has_ended Ended = true
+label_has_ended _ = false

@@ -2,7 +2,7 @@
 use Rattle.std.specs.Prelude.{◌≡◌, ◌⊎◌, ℕ, ◌<◌, ◌≤◌, Bool, List, ◌++◌, length, Option, None, Some}
 use Rattle.flash_names.specs.declared.geometry.Geometry.{Geometry}
 use Rattle.flash_names.specs.Source.{IsAtEnd}
-use Rattle.flash_names.specs.Told.{in_front, behind}
+use Rattle.flash_names.specs.Told.{with_front, with_more}
 use Rattle.flash_device.specs.declared.shape.Shape.{Shape}
 use Rattle.flash_trace.specs.declared.fault.ScriptFault.{ScriptFault}
 use Rattle.flash_trace.specs.declared.fault.Status.{Status}
@@ -42,7 +42,7 @@ AtNoMemory _ holds = Unit {0}
 
 -- these bytes were read: all that there are, or more than a script may have, but by 65,536 at most
 pub record HasRead (bytes : List ℕ) (left left_after : Option (List ℕ)) : Type 0 where
-  pub taken : left ≡ in_front bytes left_after
+  pub taken : left ≡ with_front bytes left_after
   pub whole : IsAtEnd left_after ⊎ (16777216 < length bytes)
   pub bounded : length bytes ≤ 16842752
 
@@ -53,9 +53,9 @@ pub record IsRead (with_journal : Option Bool) (left left_after : Option (List �
   pub journal : Bool
   pub wanted : with_journal ≡ Some journal
 
--- these bytes were written, and none behind them
+-- these bytes were written, and none after them
 abbrev pub IsWritten : List ℕ → Option (List ℕ) → Option (List ℕ) → Type 0
-IsWritten bytes held held_after = held_after ≡ behind bytes held
+IsWritten bytes held held_after = held_after ≡ with_more bytes held
 
 -- a front part of them was written
 pub record IsBegun (bytes : List ℕ) (held held_after : Option (List ℕ)) : Type 0 where

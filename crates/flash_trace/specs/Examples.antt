@@ -1,6 +1,6 @@
 -- The definitions on a worked example: a session stores `hello` under `a` and gets it.
 use Rattle.std.specs.Prelude.{◌≡◌, pos, false, [], ◌∷◌, ◌++◌, codes}
-use Rattle.flash_entry.specs.declared.found.Found2.TheVariants as found
+use Rattle.flash_entry.specs.declared.found.LookAnswer.TheVariants as found
 use Rattle.flash_entry.specs.declared.found.Told.TheVariants as told
 use Rattle.flash_trace.specs.declared.command.Refusal.TheVariants.{Unknown, BadChunk}
 use Rattle.flash_trace.specs.declared.command.Command.TheVariants.{Get, Store, Refused}
@@ -17,7 +17,7 @@ ReadsBoth =
     commands_of 1024 (reply_line (codes "set a 0 0 5") ++ reply_line (codes "hello") ++ reply_line (codes "get a"))
     ≡ (Store (put_of set_hello (codes "hello")) ∷ Get (codes "a") ∷ [], InLine [])
 
--- a block that is followed by other bytes is refused, and what stands up to the next line feed is skipped
+-- a block that is followed by other bytes is refused, and what is up to the next line feed is skipped
 abbrev pub SkipsBadChunk : Type 0
 SkipsBadChunk =
     commands_of 1024 (reply_line (codes "set a 0 0 5") ++ reply_line (codes "hello, you") ++ reply_line (codes "get"))

@@ -15,7 +15,7 @@ abbrev pub without_return : List ℕ → List ℕ
 without_return [] = []
 without_return (b ∷ bytes) = elim bytes [ [] ↦ (if b == 13 then [] else b ∷ []) | c ∷ cs ↦ b ∷ without_return bytes ]
 
--- a line feed and what stands behind it, where it stands there
+-- a line feed and what is after it, where it is there
 abbrev pub with_feed : Option (List ℕ) → List ℕ
 with_feed None = []
 with_feed (Some rest) = 10 ∷ rest
@@ -24,7 +24,7 @@ with_feed (Some rest) = 10 ∷ rest
 abbrev pub spaced_words : List ℕ → List (List ℕ)
 spaced_words line = filter (λ w. not (nat_eq (length w) 0)) (words line)
 
--- a word in front of those of what stands behind it, or no words
+-- a word before those of what is after it, or no words
 abbrev pub with_next : Option (List ℕ × List ℕ) → List (List ℕ)
 with_next None = []
 with_next (Some parts) = parts.0 ∷ spaced_words parts.1
@@ -46,7 +46,7 @@ number_below limit word = option_and_then (λ n. if nat_lt n limit then Some n e
 abbrev pub seconds_of : List ℕ → Option ℕ
 seconds_of word = if nat_le (length word) 18 then number_of word else None
 
--- an exptime: a number of at most 18 digits, and a sign in front of it where it is negative
+-- an exptime: a number of at most 18 digits, and a sign before it where it is negative
 abbrev pub exptime_of : List ℕ → Option ℤ
 exptime_of [] = None
 exptime_of (b ∷ word) =
@@ -56,7 +56,7 @@ abbrev pub set_or_unknown : Option SetLine → Line
 set_or_unknown None = Unknown
 set_or_unknown (Some line) = Set line
 
--- the line of `set` behind the command word
+-- the line of `set` after the command word
 abbrev pub set_line : ℕ → List (List ℕ) → Line
 set_line item_max (key ∷ flags ∷ exptime ∷ size ∷ []) =
     set_or_unknown (option_and_then (λ k. option_and_then (λ f. option_and_then (λ e. option_map (λ n. record { key = k; flags = f; exptime = e; size = n })
@@ -67,7 +67,7 @@ abbrev pub get_or_unknown : Option (List ℕ) → Line
 get_or_unknown None = Unknown
 get_or_unknown (Some key) = Get key
 
--- the line of `get` behind the command word
+-- the line of `get` after the command word
 abbrev pub get_line : List (List ℕ) → Line
 get_line (key ∷ []) = get_or_unknown (key_of key)
 get_line _ = Unknown

@@ -21,7 +21,7 @@ abbrev pub sessions_text : ℕ → List (Option Seat) → List ℕ
 sessions_text number [] = []
 sessions_text number (seat ∷ seats) = session_text number seat ++ sessions_text (number + 1) seats
 
--- the journal behind the script's first line, with its line feed
+-- the journal after the script's first line, with its line feed
 abbrev pub journal_text : List ℕ → List Entry → List ℕ
 journal_text head journal = codes "journal " ++ decimal (length journal) ++ 10 ∷ head ++ flat_map entry_line journal
 

@@ -2,8 +2,8 @@
 use Rattle.std.specs.Prelude.{ℕ, ◌+◌, ◌-◌, Bool, true, false, List, [], ◌∷◌, ◌++◌, Option, None, Some, codes, decimal, replicate, slice_get, slice_set, if◌then◌else◌}
 use Rattle.flash_names.specs.declared.geometry.Geometry.{Geometry}
 use Rattle.flash_entry.specs.declared.entry.Entry.{Entry}
-use Rattle.flash_entry.specs.declared.found.Found2.{Found2}
-use Rattle.flash_entry.specs.declared.found.Found2.TheVariants as outcomes
+use Rattle.flash_entry.specs.declared.found.LookAnswer.{LookAnswer}
+use Rattle.flash_entry.specs.declared.found.LookAnswer.TheVariants as outcomes
 use Rattle.flash_entry.specs.declared.found.Told.TheVariants as told
 use Rattle.flash_machine.specs.Cache.{Cache, first_cache}
 use Rattle.flash_core.specs.declared.found.Found.{Found}
@@ -12,11 +12,11 @@ use Rattle.flash_core.specs.Store.{Desk, Call}
 use Rattle.flash_core.specs.Calls.{clock_call, store_call, look_call}
 use Rattle.flash_trace.specs.declared.command.Command.{Command}
 use Rattle.flash_trace.specs.declared.command.Command.TheVariants.{Get, Store, Refused}
-use Rattle.flash_trace.specs.Commands.{Reader, InLine, has_ended, read_from}
+use Rattle.flash_trace.specs.Commands.{Reader, InLine, label_has_ended, read_from}
 use Rattle.flash_trace.specs.Replies.{step_text, plain_text}
 use Rattle.flash_trace.specs.Steps.{Step, Clock, Say, Run}
 
--- a session: where its reader stands, the commands that it has read and not done, the number of its last step,
+-- a session: where its reader is, the commands that it has read and not done, the number of its last step,
 -- what it was answered, and whether it is closed: a turn of it has met the end of its bytes
 pub record Seat : Type 0 where
   pub reader : Reader
@@ -49,12 +49,12 @@ abbrev pub after_call : {A : Type 0} → StoreState → Call A → StoreState
 after_call kept call = record { journal = kept.journal ++ call.entries; cache = call.cache; desk = call.desk }
 
 -- what a session is told of a lookup
-abbrev pub outcome_of : Found → Found2
+abbrev pub outcome_of : Found → LookAnswer
 outcome_of found.Miss = outcomes.Miss
 outcome_of (found.Head head) = outcomes.Head head
 outcome_of (found.Here hit) = outcomes.Hit hit
 
--- the session behind its step of this number
+-- the session after its step of this number
 abbrev pub replied : Seat → ℕ → List ℕ → Seat
 replied seat last text = record seat { last = last; said = seat.said ++ text }
 
@@ -106,9 +106,9 @@ say g play line session bytes =
     let seat = seat_at play session in
     if seat.closed then with_line (with_seat play session seat) (codes "closed") line else with_seat play session (fed g seat bytes)
 
--- the session behind its turn: it is closed where its reader has met an end
+-- the session after its turn: it is closed where its reader has met an end
 abbrev pub behind_turn : Seat → Seat
-behind_turn seat = record seat { closed = has_ended seat.reader }
+behind_turn seat = record seat { closed = label_has_ended seat.reader }
 
 -- a turn of the session: it does the commands that it has read
 abbrev pub run : Geometry → Play → ℕ → Play
@@ -122,7 +122,7 @@ clock play line reading =
     let call = clock_call play.kept.cache play.kept.desk reading in
     with_line_unless call.answer (record play { kept = after_call play.kept call }) (codes "idle") line
 
--- one step, which stands on this line
+-- one step, which is on this line
 abbrev pub play_step : Geometry → Play → ℕ → Step → Play
 play_step g play line (Clock reading) = clock play line reading
 play_step g play line (Say session bytes) = say g play line session bytes
@@ -133,6 +133,6 @@ abbrev pub play_from : Geometry → Play → ℕ → List Step → Play
 play_from g play line [] = play
 play_from g play line (step ∷ steps) = play_from g (play_step g play line step) (line + 1) steps
 
--- a whole script: its steps stand on the lines from 2 on
+-- a whole script: its steps are on the lines from 2 on
 abbrev pub play_of : Geometry → List Step → Play
 play_of g steps = play_from g first_play 2 steps

@@ -2,8 +2,8 @@
 use Rattle.std.specs.Prelude.{ℕ, List, [], ◌∷◌, ◌++◌, codes, decimal}
 use Rattle.flash_entry.specs.declared.answer.Stored.{Stored}
 use Rattle.flash_entry.specs.declared.answer.Stored.TheVariants as stored
-use Rattle.flash_entry.specs.declared.found.Found2.{Found2}
-use Rattle.flash_entry.specs.declared.found.Found2.TheVariants as found
+use Rattle.flash_entry.specs.declared.found.LookAnswer.{LookAnswer}
+use Rattle.flash_entry.specs.declared.found.LookAnswer.TheVariants as found
 use Rattle.flash_entry.specs.declared.found.Hit.{Hit}
 use Rattle.flash_entry.specs.declared.found.Told.{Told}
 use Rattle.flash_entry.specs.declared.found.Told.TheVariants as told
@@ -29,12 +29,12 @@ abbrev pub hit_text : List ℕ → Hit → List ℕ
 hit_text key hit = reply_line (codes "VALUE " ++ key ++ 32 ∷ decimal hit.head.flags ++ 32 ∷ decimal hit.head.size) ++ reply_line hit.value
 
 -- a miss has no block
-abbrev pub found_block : List ℕ → Found2 → List ℕ
+abbrev pub found_block : List ℕ → LookAnswer → List ℕ
 found_block key (found.Hit hit) = hit_text key hit
 found_block key _ = []
 
 -- the reply to a lookup
-abbrev pub found_text : List ℕ → Found2 → List ℕ
+abbrev pub found_text : List ℕ → LookAnswer → List ℕ
 found_text key outcome = found_block key outcome ++ reply_line (codes "END")
 
 -- the reply to a step of a command, by its outcome; the last step of a lookup carries its end. A step without memory

@@ -26,7 +26,7 @@ IsReadByLines = (bytes : List ℕ) (script : Script) → script_of bytes ≡ Som
 abbrev pub IsStepLine : List ℕ → Type 0
 IsStepLine line = is_ok (step_of line) ≡ true
 
--- lines of which one is bad, and those in front of it are good
+-- lines of which one is bad, and those before it are good
 pub record HasBadLine (lines : Lines) (good : List (List ℕ)) (why : Why) : Type 0 where
   pub head : List ℕ
   pub bad : List ℕ
@@ -36,7 +36,7 @@ pub record HasBadLine (lines : Lines) (good : List (List ℕ)) (why : Why) : Typ
   pub steps : AllByRecursion IsStepLine good
   pub fault : step_of bad ≡ Err why
 
--- the first bad line is the fault, with its number: the steps stand on the lines from 2 on
+-- the first bad line is the fault, with its number: the steps are on the lines from 2 on
 abbrev pub IsFirstBadLine : Type 0
 IsFirstBadLine = (bytes : List ℕ) (good : List (List ℕ)) (why : Why) → length bytes ≤ 16777216 → length good < 1048576 → HasBadLine (lines_of bytes) good why
     → fault_of bytes ≡ Some (record { line = length good + 2; why = why })
@@ -46,7 +46,7 @@ abbrev pub IsBadHead : Type 0
 IsBadHead = (bytes head : List ℕ) (more : List (List ℕ)) (why : Why) → length bytes ≤ 16777216 → (lines_of bytes).whole ≡ head ∷ more → geometry_of head ≡ Err why
     → fault_of bytes ≡ Some (record { line = 1; why = why })
 
--- lines that are good, and bytes behind the last of them that no line feed ends
+-- lines that are good, and bytes after the last of them that no line feed ends
 pub record HasOpenLine (lines : Lines) (good : List (List ℕ)) : Type 0 where
   pub head : List ℕ
   pub parts : lines.whole ≡ head ∷ good
@@ -65,7 +65,7 @@ IsShortLine = (bytes : List ℕ) (good : List (List ℕ)) → length bytes ≤ 1
 abbrev pub IsShortHead : Type 0
 IsShortHead = (bytes : List ℕ) → length bytes ≤ 16777216 → (lines_of bytes).whole ≡ [] → fault_of bytes ≡ Some (record { line = 1; why = Short })
 
--- too many bytes stand before all other faults
+-- too many bytes are before all other faults
 abbrev pub HasTooManyBytes : Type 0
 HasTooManyBytes = (bytes : List ℕ) → 16777216 < length bytes → fault_of bytes ≡ Some (record { line = 0; why = TooLong })
 

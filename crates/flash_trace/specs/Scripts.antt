@@ -6,9 +6,9 @@ use Rattle.std.specs.Str.{bytes_eq}
 use Rattle.flash_names.specs.declared.geometry.Geometry.{Geometry}
 use Rattle.flash_names.specs.Numbers.{number_of}
 use Rattle.flash_names.specs.Words.{words}
-use Rattle.flash_entry.specs.declared.head.HeadFault.{HeadFault}
-use Rattle.flash_entry.specs.declared.head.HeadFault.TheVariants as head_faults
-use Rattle.flash_entry.specs.Head.{head_of}
+use Rattle.flash_entry.specs.declared.geometry_line.HeadFault.{HeadFault}
+use Rattle.flash_entry.specs.declared.geometry_line.HeadFault.TheVariants as head_faults
+use Rattle.flash_entry.specs.GeometryLine.{geometry_of_line}
 use Rattle.flash_trace.specs.declared.fault.Why.{Why}
 use Rattle.flash_trace.specs.declared.fault.Why.TheVariants.{BadWord, BadNumber, Short, TooLong}
 use Rattle.flash_trace.specs.declared.fault.Why.TheVariants as reasons
@@ -23,12 +23,12 @@ pub record Script : Type 0 where
   pub head : List ℕ
   pub steps : List Step
 
--- bytes by their lines: those that a line feed ends, without it, and what stands behind the last one
+-- bytes by their lines: those that a line feed ends, without it, and what is after the last one
 pub record Lines : Type 0 where
   pub whole : List (List ℕ)
   pub rest : List ℕ
 
--- a byte in front of the first line
+-- a byte before the first line
 abbrev pub in_first_line : ℕ → Lines → Lines
 in_first_line b lines = elim lines.whole [
   | [] ↦ record { whole = []; rest = b ∷ lines.rest }
@@ -41,7 +41,7 @@ lines_of [] = record { whole = []; rest = [] }
 lines_of (b ∷ bytes) =
     let lines = lines_of bytes in if b == 10 then record { whole = [] ∷ lines.whole; rest = lines.rest } else in_first_line b lines
 
--- what stands behind the first space, where there is one
+-- what is after the first space, where there is one
 abbrev pub behind_word : List ℕ → List ℕ
 behind_word [] = []
 behind_word (b ∷ bytes) = if b == 32 then bytes else behind_word bytes
@@ -58,7 +58,7 @@ step_word word =
     else if bytes_eq word (codes "run") then Some begins.Run
     else None
 
--- the step of a line that begins with this word, has these words behind it, and this text behind its second space:
+-- the step of a line that begins with this word, has these words after it, and this text after its second space:
 -- `clock <n>`, `run <s>`, or `say <s> <text>`, whose text may have spaces or be empty
 abbrev pub step_of_word : StepWord → List (List ℕ) → List ℕ → Result Step Why
 step_of_word begins.Clock (number ∷ []) text = ok_or (option_map Clock (number_of number)) BadNumber
@@ -66,7 +66,7 @@ step_of_word begins.Run (number ∷ []) text = ok_or (option_map Run (session_of
 step_of_word begins.Say (number ∷ word ∷ more) text = ok_or (option_map (λ session. Say session text) (session_of number)) BadNumber
 step_of_word _ _ _ = Err BadWord
 
--- the step of a line of these words, with this text behind its second space
+-- the step of a line of these words, with this text after its second space
 abbrev pub step_of_words : List (List ℕ) → List ℕ → Result Step Why
 step_of_words [] text = Err BadWord
 step_of_words (word ∷ more) text = elim (step_word word) [ None ↦ Err BadWord | Some begin ↦ step_of_word begin more text ]
@@ -83,9 +83,9 @@ why_of (head_faults.Geometry rule) = reasons.Geometry rule
 
 -- the geometry of the first line, or why that line is bad
 abbrev pub geometry_of : List ℕ → Result Geometry Why
-geometry_of line = result_map_both (λ geometry. geometry) why_of (head_of line)
+geometry_of line = result_map_both (λ geometry. geometry) why_of (geometry_of_line line)
 
--- the fault of a line that wasn't read, and else the fault of those behind it
+-- the fault of a line that wasn't read, and else the fault of those after it
 abbrev pub fault_or : {A : Type 0} → ℕ → Result A Why → Option ScriptFault → Option ScriptFault
 fault_or line (Ok _) later = later
 fault_or line (Err why) later = Some (record { line = line; why = why })
@@ -94,8 +94,8 @@ fault_or line (Err why) later = Some (record { line = line; why = why })
 abbrev pub too_long : Option ScriptFault
 too_long = Some (record { line = 0; why = TooLong })
 
--- the first fault of these lines, of which the first has this number, and of the bytes behind them: a script has
--- steps on its lines from 2 to 1,048,577, and a line behind these isn't looked at
+-- the first fault of these lines, of which the first has this number, and of the bytes after them: a script has
+-- steps on its lines from 2 to 1,048,577, and a line after these isn't looked at
 abbrev pub steps_fault : ℕ → List (List ℕ) → List ℕ → Option ScriptFault
 steps_fault line [] [] = None
 steps_fault line [] (b ∷ rest) = if nat_lt 1048577 line then too_long else Some (record { line = line; why = Short })

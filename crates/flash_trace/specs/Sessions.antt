@@ -7,7 +7,7 @@ use Rattle.flash_trace.specs.declared.session.Reading.TheVariants as readings
 use Rattle.flash_trace.specs.declared.session.Session.{Session}
 use Rattle.flash_trace.specs.Commands.{Reader, InLine, InBlock, Behind, Skipping, Ended, Read, read_from}
 
--- where it stands, by the bytes of its line so far
+-- where it is, by the bytes of its line so far
 abbrev pub reader_at : List ℕ → Reading → Reader
 reader_at part readings.Line = InLine part
 reader_at part (readings.Block block) = InBlock block.line block.bytes.items
@@ -22,11 +22,11 @@ reader_of s = reader_at s.part.items s.reading
 abbrev pub waiting_of : Session → List Command
 waiting_of s = s.commands.items
 
--- what was read, its commands behind these
+-- what was read, its commands after these
 abbrev pub behind_these : List Command → Read → Read
 behind_these commands read = (commands ++ read.0, read.1)
 
--- this was read: its commands wait behind those that waited, and the reader stands where it ended
+-- this was read: its commands wait after those that waited, and the reader is where it ended
 pub record Took (old : Session) (read : Read) (new : Session) : Type 0 where
   pub item_max : new.item_max ≡ old.item_max
   pub waiting : waiting_of new ≡ waiting_of old ++ read.0
@@ -36,7 +36,7 @@ pub record Took (old : Session) (read : Read) (new : Session) : Type 0 where
 abbrev pub Reads : Session → List ℕ → Session → Type 0
 Reads old bytes new = Took old (read_from old.item_max (reader_of old) bytes) new
 
--- of these bytes, which began where this reader stands, the rest is left, which is shorter: the session that reads
+-- of these bytes, which began where this reader is, the rest is left, which is shorter: the session that reads
 -- the rest ends as the one that reads them all
 pub record LeavesRest (old : Session) (reader : Reader) (bytes : List ℕ) (new : Session) (rest : List ℕ) : Type 0 where
   pub item_max : new.item_max ≡ old.item_max

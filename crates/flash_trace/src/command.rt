@@ -6,7 +6,7 @@ use flash_names::Key;
 pub enum Refusal {
     /// An unknown command, or one whose words aren't as they must be.
     Unknown,
-    /// The two bytes behind a block of data aren't `\r\n`.
+    /// The two bytes after a block of data aren't `\r\n`.
     BadChunk,
 }
 

@@ -14,12 +14,12 @@ pub fn each_line_is_read()
     ensures { IsReadByLines }
 {}
 
-/// Where a step's line is bad, and line 1 and the steps' lines in front of it are good, that line is the fault, with
+/// Where a step's line is bad, and line 1 and the steps' lines before it are good, that line is the fault, with
 /// its number.
 pub fn the_first_bad_line_is_the_fault()
     ensures step { IsFirstBadLine }
 
-    // A bad line 1 is the fault, and so is a last line that no line feed ends; too many bytes stand before all.
+    // A bad line 1 is the fault, and so is a last line that no line feed ends; too many bytes are before all.
     ensures head { IsBadHead }
     ensures short { IsShortLine }
     ensures short_head { IsShortHead }
@@ -37,8 +37,8 @@ pub fn every_play_is_right()
     ensures { EveryPlayIsRight }
 {}
 
-/// The steps in front of a script make a journal that the whole script's goes on from: what a turn did is not changed
-/// by what comes behind it.
+/// The steps before a script make a journal that the whole script's goes on from: what a turn did is not changed
+/// by what comes after it.
 pub fn each_front_makes_a_front()
     ensures { EachFrontMakesAFront }
 {}

@@ -63,7 +63,7 @@ fn read_command(command: &[u8], rest: &[u8], item_max: u32) -> Line
     }
 }
 
-// The key of a `get`, from what stands behind its command word.
+// The key of a `get`, from what is after its command word.
 fn read_get(rest: &[u8]) -> Option<Key>
     ensures { get_or_unknown result ≡ get_line (spaced_words rest.now) }
 {
@@ -74,7 +74,7 @@ fn read_get(rest: &[u8]) -> Option<Key>
     read_key(key)
 }
 
-// What stands behind the command word of a `set`.
+// What is after the command word of a `set`.
 fn read_set(rest: &[u8], item_max: u32) -> Option<SetLine>
     ensures { set_or_unknown result ≡ set_line item_max (spaced_words rest.now) }
 {
@@ -93,7 +93,7 @@ fn read_set(rest: &[u8], item_max: u32) -> Option<SetLine>
     })
 }
 
-// The first word of a line whose words have one or more spaces between two, and what stands behind it.
+// The first word of a line whose words have one or more spaces between two, and what is after it.
 fn next_word(line: &[u8]) -> Option<(&[u8], &[u8])>
     ensures { spaced_words line.now ≡ with_next (option_map (λ parts. (parts.0.now, parts.1.now)) result) }
 {
@@ -136,7 +136,7 @@ fn number_at_most(word: &[u8], most: u32) -> Option<u32>
     (number <= most).then_some(number)
 }
 
-// An exptime: 1 to 18 digits, and a sign in front of them where it is negative.
+// An exptime: 1 to 18 digits, and a sign before them where it is negative.
 fn read_exptime(word: &[u8]) -> Option<i64>
     ensures { result ≡ exptime_of word.now }
 {

@@ -13,7 +13,7 @@ use itoa::Buffer;
 use std::alloc::{AllocError, Global};
 
 /// The output of a trace that ran: the printed lines, each session's replies, with `with_journal` the journal
-/// behind the script's first line, and the number of steps.
+/// after the script's first line, and the number of steps.
 pub fn played_output(
     alloc: Global,
     play: &Play,

@@ -19,7 +19,7 @@ pub struct Seat {
     pub session: Session,
     /// The number of its last step, 0 before the first.
     pub last: u64,
-    /// Its replies, one behind the other.
+    /// Its replies, one after the other.
     pub said: Vec<u8>,
     /// A turn of the session has met the end of its bytes: it takes no more.
     pub closed: bool,
@@ -46,7 +46,7 @@ impl Seat {
         ensures ended { seat_of self.new ≡ behind_turn (seat_of self.old) }
         ensures size { self.new.session.item_max ≡ self.old.session.item_max }
     {
-        self.closed = self.session.has_ended();
+        self.closed = self.session.label_has_ended();
     }
 }
 
@@ -75,7 +75,7 @@ impl Play {
         })
     }
 
-    /// Does one step of the script, which stands on this line.
+    /// Does one step of the script, which is on this line.
     pub fn step<J: Journal>(
         &mut self,
         alloc: Global,

@@ -1,7 +1,7 @@
 ghost use Rattle.std.specs.Prelude.{◌≡◌, ◌↔◌, ◌<◌, ◌≤◌, ◌+◌, ℕ, List, Option, true, false, Some, None, length, map, IfOk, IfErr, OnOk, OnErr, IsTrue, is_some};
 ghost use Rattle.flash_names.specs.Faults.{Rose, Counts};
 ghost use Rattle.flash_names.specs.Source.{IsAtEnd};
-ghost use Rattle.flash_names.specs.Told.{in_front};
+ghost use Rattle.flash_names.specs.Told.{with_front};
 ghost use Rattle.flash_device.specs.Calls.{Called};
 ghost use Rattle.flash_trace.specs.CommandLine.{journal_wanted};
 ghost use Rattle.flash_trace.specs.Ends.{Ends, IsWritten, IsBegun, HasRead, AtDone, AtUsage, AtScript, AtSourceFault, AtSinkFault, AtPrepareFault, AtNoMemory, HasRun, HasRefused, HasBegun, HasReading, IsAsked, IsComplete};
@@ -26,7 +26,7 @@ use std::alloc::{AllocError, Global};
 // How many bytes a read of the source asks for.
 const PIECE: usize = 65_536;
 
-/// Reads a script, runs it over a store, and writes what it printed and answered. The words behind the program's
+/// Reads a script, runs it over a store, and writes what it printed and answered. The words after the program's
 /// name are `trace` or `trace --journal`, which writes the journal too; any other is a usage fault, and then
 /// nothing is read or written. The device is prepared, once, where the script was read and has no bad line.
 pub fn run_trace<S: Source, K: Sink, D: Device>(
@@ -103,7 +103,7 @@ fn read_piece<S: Source>(
     bytes: &mut Vec<u8>,
 ) -> Result<bool, ReadError>
     requires { 0 < length piece.old }
-    ensures taken { OnOk result ((first : Option (List ℕ)) → first ≡ in_front bytes.old.items (S.left source.old) → first ≡ in_front bytes.new.items (S.left source.new)) }
+    ensures taken { OnOk result ((first : Option (List ℕ)) → first ≡ with_front bytes.old.items (S.left source.old) → first ≡ with_front bytes.new.items (S.left source.new)) }
     ensures more { IfOk result (λ more. more ≡ true → length bytes.old.items < length bytes.new.items) }
     ensures bound { OnOk result (length bytes.new.items ≤ length bytes.old.items + length piece.old) }
     ensures end { IfOk result (λ more. more ≡ false → IsAtEnd (S.left source.new)) }
@@ -195,7 +195,7 @@ fn play_script(
     requires within { AreWithin (length bytes.now) script.now.steps.items }
     ensures { IfOk result (λ out. out.items ≡ output (script_meant bytes.now script.now) with_journal) }
 {
-    // The geometry was checked as the head was read, so only memory can be wanting.
+    // The geometry was checked as the head was read, so only memory can run out.
     let Ok(mut core) = Core::open(alloc, script.geometry, Kept::new(alloc)) else {
         return Err(AllocError);
     };

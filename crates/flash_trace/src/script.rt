@@ -22,9 +22,9 @@ pub const MAX_STEPS: usize = 1_048_576;
 pub struct Script {
     /// The geometry of line 1.
     pub geometry: Geometry,
-    /// The place behind the line feed of line 1, in bytes.
+    /// The place after the line feed of line 1, in bytes.
     pub head_end: usize,
-    /// The steps of the lines behind it, in order.
+    /// The steps of the lines after it, in order.
     pub steps: Vec<Step>,
 }
 
@@ -99,7 +99,7 @@ fn why_of(fault: HeadFault) -> Why
     }
 }
 
-// The steps of the lines behind the first one, which ends at this place.
+// The steps of the lines after the first one, which ends at this place.
 fn read_steps(alloc: Global, bytes: &[u8], head_end: usize) -> Result<Vec<Step>, NotRead>
     requires within { head_end ≤ length bytes.now }
     requires small { length bytes.now ≤ 16777216 }

@@ -38,7 +38,7 @@ fn outcome(alloc: Global, bytes: &[u8]) -> Result<Result<usize, (u32, Why)>, All
     }
 }
 
-// A good line 1, and behind it this line, doubled this many times.
+// A good line 1, and after it this line, doubled this many times.
 fn doubled(alloc: Global, line: &[u8], times: u32) -> Result<Vec<u8>, AllocError> {
     let mut lines = line.to_vec(alloc)?;
     'doublings: for _ in 0..times {

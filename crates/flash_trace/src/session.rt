@@ -21,16 +21,16 @@ struct OpenBlock {
     ghost lacking: { vec_len bytes < line.size },
 }
 
-/// Where a session's reader stands.
+/// Where a session's reader is.
 #[derive(Drop)]
 enum Reading {
     /// In a line.
     Line,
     /// In the data block of a storage line.
     Block(OpenBlock),
-    /// In the two bytes behind a whole block, of which the first may be read.
+    /// In the two bytes after a whole block, of which the first may be read.
     Behind(SetLine, Vec<u8>, Option<u8>),
-    /// In what is skipped behind a bad data chunk: so many bytes so far, which are fewer than `LINE_LIMIT`.
+    /// In what is skipped after a bad data chunk: so many bytes so far, which are fewer than `LINE_LIMIT`.
     Skip(u16),
     /// At an end: nothing more is read.
     Ended,
@@ -52,7 +52,7 @@ impl Session {
     ghost use Rattle.std.specs.Prelude.{◌≡◌, ◌<◌, [], length, OnOk, IfOk};
     ghost use Rattle.std.specs.Option.{option_to_list};
     ghost use Rattle.flash_trace.specs.Lines.{line_of};
-    ghost use Rattle.flash_trace.specs.Commands.{InLine, InBlock, Behind, Skipping, has_ended, line_read, block_of, behind_block, in_skip, after_skip};
+    ghost use Rattle.flash_trace.specs.Commands.{InLine, InBlock, Behind, Skipping, label_has_ended, line_read, block_of, behind_block, in_skip, after_skip};
     ghost use Rattle.flash_trace.specs.Sessions.{reader_at, reader_of, waiting_of, Took, Reads, LeavesRest};
 
     /// A session that was given nothing. Its values have at most `item_max` bytes.
@@ -71,8 +71,8 @@ impl Session {
     }
 
     /// Whether its reader has met an end: nothing more is read.
-    pub fn has_ended(&self) -> bool
-        ensures { result ≡ has_ended (reader_of self.now) }
+    pub fn label_has_ended(&self) -> bool
+        ensures { result ≡ label_has_ended (reader_of self.now) }
     {
         matches!(self.reading, Reading::Ended)
     }
@@ -98,7 +98,7 @@ impl Session {
         Ok(())
     }
 
-    // Reads the bytes up to where the reader stands elsewhere, and gives those behind them.
+    // Reads the bytes up to where the reader is elsewhere, and gives those after them.
     fn feed_some<'a>(&mut self, bytes: &'a [u8]) -> Result<&'a [u8], AllocError>
         requires { 0 < length bytes.now }
         ensures { IfOk result (λ rest. LeavesRest self.old (reader_of self.old) bytes.now self.new rest.now) }
@@ -117,13 +117,13 @@ impl Session {
         requires { 0 < length bytes.now }
         ensures { IfOk result (λ rest. LeavesRest self.old (InLine self.old.part.items) bytes.now self.new rest.now) }
     {
-        let (front, behind) = cut_at_feed(bytes);
+        let (front, with_more) = cut_at_feed(bytes);
         if front.len() >= LINE_LIMIT - self.part.len() {
             self.reading = Reading::Ended;
             return Ok(&[]);
         }
         self.part.extend_from_slice(front)?;
-        match behind {
+        match with_more {
             None => {
                 self.reading = Reading::Line;
                 Ok(&[])
@@ -179,7 +179,7 @@ impl Session {
         Ok(rest)
     }
 
-    // One of the two bytes behind a block.
+    // One of the two bytes after a block.
     fn feed_behind<'a>(
         &mut self,
         line: SetLine,
@@ -222,7 +222,7 @@ impl Session {
         self.begin_skip(first, second)
     }
 
-    // The skip behind a bad data chunk begins with the two bytes that are no line end. A line feed that is
+    // The skip after a bad data chunk begins with the two bytes that are no line end. A line feed that is
     // the first of them ends it, and the other is then the first byte of a line.
     fn begin_skip(&mut self, first: u8, second: u8) -> Result<(), AllocError>
         ensures { OnOk result (Took self.old (after_skip self.old.item_max (in_skip 0 first) second) self.new) }
@@ -251,9 +251,9 @@ impl Session {
         requires { 0 < length bytes.now }
         ensures { LeavesRest self.old (Skipping skipped) bytes.now self.new result.now }
     {
-        let (front, behind) = cut_at_feed(bytes);
+        let (front, with_more) = cut_at_feed(bytes);
         self.begin_line();
-        match (behind, skipped_with(skipped, front)) {
+        match (with_more, skipped_with(skipped, front)) {
             (_, None) => {
                 self.reading = Reading::Ended;
                 &[]
@@ -267,7 +267,7 @@ impl Session {
     }
 }
 
-// The bytes in front of the first line feed, and those behind it, where there is one.
+// The bytes before the first line feed, and those after it, where there is one.
 fn cut_at_feed(bytes: &[u8]) -> (&[u8], Option<&[u8]>)
     ensures whole { bytes.now ≡ result.0.now ++ with_feed (option_map (λ rest. rest.now) result.1) }
     ensures none { list_all (λ b. not (b == 10)) result.0.now ≡ true }

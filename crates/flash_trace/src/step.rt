@@ -39,7 +39,7 @@ impl SessionNumber {
     }
 }
 
-/// One step of a script. A `say` names the range of the script that its bytes stand in.
+/// One step of a script. A `say` names the range of the script that its bytes are in.
 #[derive(Clone, Copy, Debug, PartialEq, Eq)]
 pub enum Step {
     /// A reading of the clock, in Unix seconds.

@@ -242,7 +242,7 @@ fn with_head(alloc: Global, steps: &[u8]) -> Result<Vec<u8>, AllocError> {
     Ok(script)
 }
 
-// A line of 65,536 bytes without a line feed ends its session: what stands before it is answered, and nothing after. The
+// A line of 65,536 bytes without a line feed ends its session: what is before it is answered, and nothing after. The
 // session is closed by its next turn, and what it is given before that is taken without a word.
 #[test]
 fn ends_a_session(rt: HostRuntime) -> Result<(), Fail> {

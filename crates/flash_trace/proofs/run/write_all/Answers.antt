@@ -1,6 +1,6 @@
 use Rattle.std.proofs.Common.{◌≡◌, ◌≤◌, ℕ, List, sym, ◌∙◌, ap, subst, arith, length, length-drop, take, drop}
 use Rattle.std.proofs.lemmas.List.{take-append-drop}
-use Rattle.flash_names.specs.Told.{behind}
+use Rattle.flash_names.specs.Told.{with_more}
 use Rattle.flash_trace.proofs.Streams.{written_on, take_on, slice_from}
 use Rattle.flash_trace.proofs.run.write_all.Goals as goal
 
@@ -26,9 +26,9 @@ writes-preserved g c =
     let mid = g.K.Sink.held c.writes.sink in
     let last = g.K.Sink.held c.write.new.self in
     let bound : n ≤ length (drop done bytes) = subst (λ (l : List ℕ). n ≤ length l) (slice_from done bytes) one.bound in
-    let more : last ≡ behind (take n (drop done bytes)) mid = one.appended ∙ ap (λ (l : List ℕ). behind (take n l) mid) (slice_from done bytes) in
+    let more : last ≡ with_more (take n (drop done bytes)) mid = one.appended ∙ ap (λ (l : List ℕ). with_more (take n l) mid) (slice_from done bytes) in
     record {
       within = omega (arith, was.within, bound, length-drop done bytes);
-      written = written_on (take done bytes) (take n (drop done bytes)) first mid last was.written more ∙ ap (λ (l : List ℕ). behind l first) (take_on done n bytes);
+      written = written_on (take done bytes) (take n (drop done bytes)) first mid last was.written more ∙ ap (λ (l : List ℕ). with_more l first) (take_on done n bytes);
       kept = omega (arith, was.kept, c.write.ensures.counts.kept);
     }

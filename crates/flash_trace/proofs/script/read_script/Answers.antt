@@ -4,7 +4,7 @@ use Rattle.flash_trace.specs.declared.fault.Why.{Why}
 use Rattle.flash_trace.specs.declared.fault.ScriptFault.{ScriptFault}
 use Rattle.flash_trace.specs.CodeScripts.{step_meant, IsFault}
 use Rattle.flash_trace.specs.Scripts.{fault_of}
-use Rattle.flash_trace.proofs.ScriptHead.{fault_no_line, fault_head, fault_behind, script_is}
+use Rattle.flash_trace.proofs.ScriptGeometryLine.{fault_no_line, fault_head, fault_behind, script_is}
 use Rattle.flash_trace.proofs.ScriptReadings.{has_seats}
 use Rattle.flash_trace.proofs.script.read_script.Goals as goal
 
@@ -20,8 +20,8 @@ returns-in-Err-clause-bad c =
 pub returns-in_err-steps-clause-bad : goal.returns-in_err-steps-clause-bad
 returns-in_err-steps-clause-bad c =
     let p = err_from_is_err_and c.from_residual.result c.from_residual.ensures.1 in
-    let behind = fault_behind c.args.bytes.now c.in-Some.head.now c.in-Some.field-0-1.now (omega arith) c.in-Some.ensures.parts c.in-Ok.geometry (sym c.in-Ok.ensures) in
-    rw (p.1, p.2) (subst (λ (f : Option ScriptFault). IsFault f c.in_err-steps.field-0.0) (sym behind) c.in_err-steps.ensures.bad)
+    let with_more = fault_behind c.args.bytes.now c.in-Some.head.now c.in-Some.field-0-1.now (omega arith) c.in-Some.ensures.parts c.in-Ok.geometry (sym c.in-Ok.ensures) in
+    rw (p.1, p.2) (subst (λ (f : Option ScriptFault). IsFault f c.in_err-steps.field-0.0) (sym with_more) c.in_err-steps.ensures.bad)
 
 pub returns-clause-read : goal.returns-clause-read
 returns-clause-read c =

@@ -1,7 +1,7 @@
 use Rattle.std.proofs.Common.{◌≡◌, List, sym, ◌∙◌, ap, subst, rules}
 use Rattle.std.specs.Prelude.{slice_get}
 use Rattle.std.specs.Option.{option_map_or, option_and_then, option_copied}
-use Rattle.flash_names.specs.Told.{behind}
+use Rattle.flash_names.specs.Told.{with_more}
 use Rattle.flash_machine.specs.Moments.{is_reached}
 use Rattle.flash_core.specs.declared.item.Item.{Item}
 use Rattle.flash_core.specs.Places.{IsPlace}
@@ -59,7 +59,7 @@ returns-clause-ok g c =
     let done = done_at g c in
     let call = λ (s : Store). store_call s.geometry s.cache s.desk c.args.id c.args.put.now in
     let ready = g.J.Journal.ready c.note_behind.new.journal in
-    subst (λ (s : Store). ◌≡◌ {A = Store} (view_now g c) (record s { told = behind (call s).entries s.told; ready = ready; cache = (call s).cache; desk = (call s).desk })) c.self.view_is
+    subst (λ (s : Store). ◌≡◌ {A = Store} (view_now g c) (record s { told = with_more (call s).entries s.told; ready = ready; cache = (call s).cache; desk = (call s).desk })) c.self.view_is
     (λ j. record { geometry = c.self.inside.geometry; told = done.noted j; ready = ready; cache = done.cache j; desk = done.desk j })
 
 pub returns-clause-answer : goal.returns-clause-answer

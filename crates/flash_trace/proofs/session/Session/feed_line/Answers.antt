@@ -10,9 +10,9 @@ pub returns-then-front-len : goal.returns-then-front-len
 returns-then-front-len c =
     let old = c.args.self.now in
     let cut = c.cut_at_feed in
-    let behind = with_feed (option_map (λ (rest : Bor (List ℕ)). rest.now) cut.result.1) in
+    let with_more = with_feed (option_map (λ (rest : Bor (List ℕ)). rest.now) cut.result.1) in
     let long : 65536 ≤ length old.part.items + length cut.result.0.now = omega (arith, old.part.ok.0) in
-    let ends = line_ends old.item_max old.part.items cut.result.0.now behind cut.ensures.none (omega (arith, old.part.ok.0)) long in
+    let ends = line_ends old.item_max old.part.items cut.result.0.now with_more cut.ensures.none (omega (arith, old.part.ok.0)) long in
     moves_on old _ (InLine old.part.items) Ended c.args.bytes.now [] refl refl refl (ap (read_from old.item_max (InLine old.part.items)) cut.ensures.whole ∙ ends) c.requires
 
 pub returns-in-None : goal.returns-in-None

@@ -19,9 +19,9 @@ pub returns-in_default-None : goal.returns-in_default-None
 returns-in_default-None c =
     let old = c.args.self.now in
     let cut = c.cut_at_feed in
-    let behind = with_feed (option_map (λ (rest : Bor (List ℕ)). rest.now) cut.result.1) in
+    let with_more = with_feed (option_map (λ (rest : Bor (List ℕ)). rest.now) cut.result.1) in
     let many = too_many (c.args.skipped + length cut.result.0.now) 65536 _ refl (sym c.skipped_with.ensures ∙ c.in_default-None.is-1) in
-    let ends = skip_ends old.item_max c.args.skipped cut.result.0.now behind cut.ensures.none (omega (arith, c.ranges.skipped.fits)) many in
+    let ends = skip_ends old.item_max c.args.skipped cut.result.0.now with_more cut.ensures.none (omega (arith, c.ranges.skipped.fits)) many in
     moves_on old _ (Skipping c.args.skipped) Ended c.args.bytes.now [] c.begin_line.ensures.item_max (c.begin_line.ensures.waiting ∙ append-nil _) refl
     (ap (read_from old.item_max (Skipping c.args.skipped)) cut.ensures.whole ∙ ends) c.requires
 

@@ -5,7 +5,7 @@ use Rattle.std.proofs.lemmas.Bool.{lt-ltb}
 use Rattle.std.proofs.lemmas.Fmt.{decimal_by_steps, decimal_nonempty, length-decimal-le}
 use Rattle.flash_names.specs.Numbers.{is_digit, value_from, if_below, number_of}
 use Rattle.flash_names.specs.Words.{words, in_first}
-use Rattle.flash_entry.specs.Head.{numbers_of}
+use Rattle.flash_entry.specs.GeometryLine.{numbers_of}
 use Rattle.flash_entry.specs.Text.{number}
 use Rattle.flash_entry.proofs.WordLemmas.{length-words}
 
@@ -14,10 +14,10 @@ IsOneWord : List ℕ → Type 0
 IsOneWord [] = Unit {0}
 IsOneWord (b ∷ bytes) = ((b == 32) ≡ false) × IsOneWord bytes
 
-one_word-behind : (front : List ℕ) (b : ℕ) → IsOneWord front → (b == 32) ≡ false → IsOneWord (front ++ b ∷ [])
+one_word-with_more : (front : List ℕ) (b : ℕ) → IsOneWord front → (b == 32) ≡ false → IsOneWord (front ++ b ∷ [])
 unfolding IsOneWord
-one_word-behind [] b front last = (last, tt)
-one_word-behind (x ∷ front) b one last = (one.0, one_word-behind front b one.1 last)
+one_word-with_more [] b front last = (last, tt)
+one_word-with_more (x ∷ front) b one last = (one.0, one_word-with_more front b one.1 last)
 
 other_than_space : (n : ℕ) → (48 + n == 32) ≡ false
 other_than_space n = grind (arith, nat_tests)
@@ -26,7 +26,7 @@ one_word-decimal : (n : ℕ) → n < 2 ^ 64 → IsOneWord (decimal n)
 unfolding IsOneWord
 one_word-decimal n small =
     decimal_by_steps (λ n ds. IsOneWord ds) (λ n digit. (other_than_space n, tt))
-    (λ n ds large front. one_word-behind ds (48 + n % 10) front (other_than_space (n % 10))) n small
+    (λ n ds large front. one_word-with_more ds (48 + n % 10) front (other_than_space (n % 10))) n small
 
 words-one : (w : List ℕ) → IsOneWord w → words w ≡ w ∷ []
 unfolding IsOneWord
@@ -53,7 +53,7 @@ abbrev pub AllBelow : ℕ → List ℕ → Type 0
 AllBelow limit [] = Unit {0}
 AllBelow limit (n ∷ ns) = (n < limit) × AllBelow limit ns
 
--- a text and numbers behind it
+-- a text and numbers after it
 abbrev pub with_numbers : List ℕ → List ℕ → List ℕ
 with_numbers front [] = front
 with_numbers front (n ∷ ns) = with_numbers (front ++ number n) ns

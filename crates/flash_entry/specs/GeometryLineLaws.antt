@@ -1,8 +1,8 @@
--- What is read of a head that was printed.
+-- What is read of a geometry line that was printed.
 use Rattle.std.specs.Prelude.{◌≡◌, ◌^◌, ◌<◌, Ok}
 use Rattle.flash_names.specs.declared.geometry.Geometry.{Geometry}
-use Rattle.flash_names.specs.Geometry.{checked}
-use Rattle.flash_entry.specs.Head.{head_of, head_text}
+use Rattle.flash_names.specs.Geometry.{check_result}
+use Rattle.flash_entry.specs.GeometryLine.{geometry_of_line, geometry_words}
 
 -- each number fits its field
 pub record FitsFields (g : Geometry) : Type 0 where
@@ -18,6 +18,7 @@ pub record FitsFields (g : Geometry) : Type 0 where
   pub max_frag : g.max_frag < 2 ^ 32
   pub recache : g.recache < 2 ^ 32
 
--- the head that is printed of a geometry that keeps its rules is read as that geometry
-abbrev pub HeadsAreReadBack : Type 0
-HeadsAreReadBack = (g : Geometry) → FitsFields g → checked g ≡ Ok tt → head_of (head_text g) ≡ Ok g
+-- the line that is printed of a geometry that keeps its rules is read as that geometry
+abbrev pub GeometryLinesAreReadBack : Type 0
+GeometryLinesAreReadBack =
+    (g : Geometry) → FitsFields g → check_result g ≡ Ok tt → geometry_of_line (geometry_words g) ≡ Ok g

@@ -1,8 +1,8 @@
 use Rattle.std.proofs.Common.{◌≡◌, ◌+◌, ◌++◌, length}
 use Rattle.std.specs.Option.{option_map}
 use Rattle.flash_names.specs.Words.{words_if}
-use Rattle.flash_entry.specs.Head.{numbers_of}
-use Rattle.flash_entry.proofs.head.read_numbers.Given as goal
+use Rattle.flash_entry.specs.GeometryLine.{numbers_of}
+use Rattle.flash_entry.proofs.geometry_line.read_numbers.Given as goal
 
 -- the numbers so far, and those of the words that are left
 abbrev pub invariant-words : goal.invariant-words

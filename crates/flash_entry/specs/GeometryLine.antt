@@ -4,13 +4,13 @@ use Rattle.std.specs.Option.{option_and_then, option_map}
 use Rattle.std.specs.Str.{bytes_eq}
 use Rattle.flash_names.specs.declared.geometry.Geometry.{Geometry}
 use Rattle.flash_names.specs.declared.geometry.BadGeometry.{BadGeometry}
-use Rattle.flash_names.specs.Geometry.{checked}
+use Rattle.flash_names.specs.Geometry.{check_result}
 use Rattle.flash_names.specs.Numbers.{number_of, if_below}
 use Rattle.flash_names.specs.Words.{words}
 use Rattle.flash_entry.specs.Text.{number, line_end}
-use Rattle.flash_entry.specs.declared.head.HeadFault.{HeadFault}
-use Rattle.flash_entry.specs.declared.head.HeadFault.TheVariants.{BadWord, BadNumber}
-use Rattle.flash_entry.specs.declared.head.HeadFault.TheVariants as faults
+use Rattle.flash_entry.specs.declared.geometry_line.HeadFault.{HeadFault}
+use Rattle.flash_entry.specs.declared.geometry_line.HeadFault.TheVariants.{BadWord, BadNumber}
+use Rattle.flash_entry.specs.declared.geometry_line.HeadFault.TheVariants as faults
 
 -- the numbers of words that are all numbers
 abbrev pub numbers_of : List (List ℕ) → Option (List ℕ)
@@ -55,31 +55,33 @@ geometry_from ns = do
   })
 
 -- a geometry that keeps its rules, or the first that it breaks
-abbrev pub kept_rules : Geometry → Result ⊤ BadGeometry → Result Geometry HeadFault
-kept_rules g (Ok _) = Ok g
-kept_rules g (Err bad) = Err (faults.Geometry bad.rule)
+abbrev pub geometry_by_rules : Geometry → Result ⊤ BadGeometry → Result Geometry HeadFault
+geometry_by_rules g (Ok _) = Ok g
+geometry_by_rules g (Err bad) = Err (faults.Geometry bad.rule)
 
 -- the same of a geometry that was read, where its numbers fit their fields
 abbrev pub checked_geometry : Option Geometry → Result Geometry HeadFault
 checked_geometry None = Err BadNumber
-checked_geometry (Some g) = kept_rules g (checked g)
+checked_geometry (Some g) = geometry_by_rules g (check_result g)
 
 -- the geometry of a line of these words
-abbrev pub head_of_words : List (List ℕ) → Result Geometry HeadFault
-head_of_words [] = Err BadWord
-head_of_words (w ∷ ws) =
-    if bytes_eq w (codes "store") && nat_eq (length ws) 11 then checked_geometry (option_and_then geometry_from (numbers_of ws)) else Err BadWord
+abbrev pub geometry_of_words : List (List ℕ) → Result Geometry HeadFault
+geometry_of_words [] = Err BadWord
+geometry_of_words (w ∷ ws) =
+    if bytes_eq w (codes "store") && nat_eq (length ws) 11 then checked_geometry
+    (option_and_then geometry_from (numbers_of ws)) else Err BadWord
 
 -- the geometry of a line without its line feed, or its first fault
-abbrev pub head_of : List ℕ → Result Geometry HeadFault
-head_of line = head_of_words (words line)
+abbrev pub geometry_of_line : List ℕ → Result Geometry HeadFault
+geometry_of_line line = geometry_of_words (words line)
 
--- the words of the head of a geometry
-abbrev pub head_text : Geometry → List ℕ
-head_text g =
-    codes "store" ++ number g.memory ++ number g.item_size ++ number g.item_max ++ number g.pages ++ number g.page_size ++ number g.buffer_size
+-- the words of the line of a geometry
+abbrev pub geometry_words : Geometry → List ℕ
+geometry_words g =
+    codes "store" ++ number g.memory ++ number g.item_size ++ number g.item_max ++ number g.pages
+    ++ number g.page_size ++ number g.buffer_size
     ++ number g.buffers ++ number g.compact_under ++ number g.drop_under ++ number g.max_frag ++ number g.recache
 
 -- the line of a geometry, with its line feed
-abbrev pub head_line : Geometry → List ℕ
-head_line g = head_text g ++ line_end
+abbrev pub geometry_line : Geometry → List ℕ
+geometry_line g = geometry_words g ++ line_end

@@ -2,17 +2,17 @@ ghost use Rattle.std.specs.Prelude.{◌≡◌, ◌≤◌, ◌==◌, length, coun
 ghost use Rattle.arrayvec.specs.ArrayVec.{array_vec_len};
 ghost use Rattle.std.specs.Option.{option_map};
 ghost use Rattle.flash_names.specs.Words.{words_if};
-ghost use Rattle.flash_entry.specs.Head.{head_of, head_line, numbers_of, geometry_from};
+ghost use Rattle.flash_entry.specs.GeometryLine.{geometry_of_line, geometry_line, numbers_of, geometry_from};
 
 use crate::text::Text;
 use arrayvec::ArrayVec;
 use flash_names::{BadGeometry, Blob, Geometry, read_number, split_word};
 use std::alloc::{AllocError, Global};
 
-/// Why a line isn't the head of a script or a journal.
+/// Why a line isn't the geometry line of a script or a journal.
 #[derive(Clone, Copy, Debug, PartialEq, Eq)]
 pub enum HeadFault {
-    /// Its first word isn't `store`, or there aren't eleven behind it.
+    /// Its first word isn't `store`, or there aren't eleven after it.
     BadWord,
     /// One of them is no number, or too large for its field.
     BadNumber,
@@ -23,7 +23,7 @@ pub enum HeadFault {
 /// Reads the word `store` and the eleven numbers of a geometry, in the order of its fields. The line has
 /// no line feed, and one space between two words.
 pub fn read_head(line: &[u8]) -> Result<Geometry, HeadFault>
-    ensures { result ≡ head_of line.now }
+    ensures { result ≡ geometry_of_line line.now }
 {
     let (first, rest) = split_word(line);
     if first != b"store".as_slice() || count_words(rest) != 11 {
@@ -37,9 +37,9 @@ pub fn read_head(line: &[u8]) -> Result<Geometry, HeadFault>
     }
 }
 
-/// The head's line of a geometry, with its line feed.
+/// The line of a geometry, with its line feed.
 pub fn print_head(alloc: Global, geometry: &Geometry) -> Result<Blob, AllocError>
-    ensures { IfOk result (λ line. line ≡ head_line geometry.now) }
+    ensures { IfOk result (λ line. line ≡ geometry_line geometry.now) }
 {
     let mut line = Text::new(alloc);
     line.push(b"store")?;
@@ -84,17 +84,17 @@ fn read_numbers(rest: Option<&[u8]>) -> Option<ArrayVec<u64, 11>>
     let mut numbers = ArrayVec::new();
     let mut left = rest;
     'words: while let Some(line) = left {
-        let (word, behind) = split_word(line);
+        let (word, with_more) = split_word(line);
         match read_number(word) {
             None => return None,
             Some(number) => numbers.push(number),
         }
-        left = behind;
+        left = with_more;
     }
     Some(numbers)
 }
 
-#[tactic(auto, unfolding(crate::specs::Head::geometry_from))]
+#[tactic(auto, unfolding(crate::specs::GeometryLine::geometry_from))]
 fn geometry_of(numbers: &[u64]) -> Option<Geometry>
     requires { length numbers.now ≡ 11 }
     ensures { result ≡ geometry_from numbers.now }

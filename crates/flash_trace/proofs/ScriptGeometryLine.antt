@@ -5,8 +5,8 @@ use Rattle.std.specs.Result.{result_ok, result_map_both}
 use Rattle.std.proofs.lemmas.Bool.Decides.{nat_tests}
 use Rattle.flash_names.specs.declared.geometry.Geometry.{Geometry}
 use Rattle.flash_names.specs.Cut.{cut_at}
-use Rattle.flash_entry.specs.declared.head.HeadFault.{HeadFault}
-use Rattle.flash_entry.specs.Head.{head_of}
+use Rattle.flash_entry.specs.declared.geometry_line.HeadFault.{HeadFault}
+use Rattle.flash_entry.specs.GeometryLine.{geometry_of_line}
 use Rattle.flash_trace.specs.declared.fault.Why.{Why}
 use Rattle.flash_trace.specs.declared.fault.Why.TheVariants.{Short}
 use Rattle.flash_trace.specs.declared.fault.ScriptFault.{ScriptFault}
@@ -24,35 +24,35 @@ by_lines bytes small =
 pub fault_no_line : (bytes : List ℕ) → length bytes ≤ 16777216 → None ≡ cut_at 10 bytes → fault_of bytes ≡ Some (record { line = 1; why = Short })
 fault_no_line bytes small cut = by_lines bytes small ∙ ap lines_fault (lines-cut bytes ∙ ap (lines_cut bytes) (sym cut))
 
-module _ (bytes head behind : List ℕ) (small : length bytes ≤ 16777216) (cut : Some (head, behind) ≡ cut_at 10 bytes) where
+module _ (bytes head with_more : List ℕ) (small : length bytes ≤ 16777216) (cut : Some (head, with_more) ≡ cut_at 10 bytes) where
   -- the lines, by the first one
-  lines_are : lines_of bytes ≡ record { whole = head ∷ (lines_of behind).whole; rest = (lines_of behind).rest }
+  lines_are : lines_of bytes ≡ record { whole = head ∷ (lines_of with_more).whole; rest = (lines_of with_more).rest }
   lines_are = lines-cut bytes ∙ ap (lines_cut bytes) (sym cut)
 
-  -- the bytes: the first line, its line feed, and what stands behind
-  parts : bytes ≡ (head ++ 10 ∷ []) ++ behind
-  parts = cut_joins 10 bytes head behind cut ∙ sym (append_assoc head (10 ∷ []) behind)
+  -- the bytes: the first line, its line feed, and what is after
+  parts : bytes ≡ (head ++ 10 ∷ []) ++ with_more
+  parts = cut_joins 10 bytes head with_more cut ∙ sym (append_assoc head (10 ∷ []) with_more)
 
-  -- what stands behind the first line
-  behind_is : drop (length head + 1) bytes ≡ behind
-  behind_is = ap (drop (length head + 1)) parts ∙ drop_at (head ++ 10 ∷ []) behind (length head + 1) (length-append head (10 ∷ []))
+  -- what is after the first line
+  behind_is : drop (length head + 1) bytes ≡ with_more
+  behind_is = ap (drop (length head + 1)) parts ∙ drop_at (head ++ 10 ∷ []) with_more (length head + 1) (length-append head (10 ∷ []))
 
   -- the first line with its line feed
   head_is : take (length head + 1) bytes ≡ head ++ 10 ∷ []
-  head_is = ap (take (length head + 1)) parts ∙ take_at (head ++ 10 ∷ []) behind (length head + 1) (length-append head (10 ∷ []))
+  head_is = ap (take (length head + 1)) parts ∙ take_at (head ++ 10 ∷ []) with_more (length head + 1) (length-append head (10 ∷ []))
 
   -- the first fault, by how the first line was read
-  fault_is : (r : Result Geometry HeadFault) → head_of head ≡ r → fault_of bytes ≡ fault_or 1 (result_map_both (λ geometry. geometry) why_of r) (fault_from 2 (drop (length head + 1) bytes))
+  fault_is : (r : Result Geometry HeadFault) → geometry_of_line head ≡ r → fault_of bytes ≡ fault_or 1 (result_map_both (λ geometry. geometry) why_of r) (fault_from 2 (drop (length head + 1) bytes))
   fault_is r read =
       by_lines bytes small ∙ ap lines_fault lines_are
-      ∙ ap (λ (r : Result Geometry HeadFault). fault_or 1 (result_map_both (λ geometry. geometry) why_of r) (fault_from 2 behind)) read
+      ∙ ap (λ (r : Result Geometry HeadFault). fault_or 1 (result_map_both (λ geometry. geometry) why_of r) (fault_from 2 with_more)) read
       ∙ ap (λ (l : List ℕ). fault_or 1 (result_map_both (λ geometry. geometry) why_of r) (fault_from 2 l)) (sym behind_is)
 
   -- a first line that is bad is the first fault
-  pub fault_head : (fault : HeadFault) → head_of head ≡ Err fault → fault_of bytes ≡ Some (record { line = 1; why = why_of fault })
+  pub fault_head : (fault : HeadFault) → geometry_of_line head ≡ Err fault → fault_of bytes ≡ Some (record { line = 1; why = why_of fault })
   fault_head fault read = fault_is (Err fault) read
 
-  module _ (geometry : Geometry) (read : head_of head ≡ Ok geometry) where
+  module _ (geometry : Geometry) (read : geometry_of_line head ≡ Ok geometry) where
     -- and else it is one of the other lines'
     pub fault_behind : fault_of bytes ≡ fault_from 2 (drop (length head + 1) bytes)
     fault_behind = fault_is (Ok geometry) read
@@ -62,6 +62,6 @@ module _ (bytes head behind : List ℕ) (small : length bytes ≤ 16777216) (cut
         → script_of bytes ≡ Some (record { geometry = geometry; head = take (length head + 1) bytes; steps = steps })
     script_is steps good are =
         ap (λ (f : Option ScriptFault). if is_none f then script_of_lines (lines_of bytes) else None) (fault_behind ∙ good) ∙ ap script_of_lines lines_are
-        ∙ ap (λ (r : Result Geometry HeadFault). script_of_parts head (result_ok (result_map_both {D = Why} (λ geometry. geometry) why_of r)) (steps_of (lines_of behind).whole)) read
+        ∙ ap (λ (r : Result Geometry HeadFault). script_of_parts head (result_ok (result_map_both {D = Why} (λ geometry. geometry) why_of r)) (steps_of (lines_of with_more).whole)) read
         ∙ ap (λ (l : List ℕ). script_of_parts head (Some geometry) (steps_of (lines_of l).whole)) (sym behind_is)
         ∙ ap (script_of_parts head (Some geometry)) are ∙ ap (λ (h : List ℕ). Some (record { geometry = geometry; head = h; steps = steps })) (sym head_is)
