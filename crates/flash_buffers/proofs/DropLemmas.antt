@@ -6,8 +6,8 @@ use Rattle.std.specs.List.{AllByRecursion, IsDistinct}
 use Rattle.flash_names.specs.declared.place.Label.{Label}
 use Rattle.flash_buffers.specs.Block.{Block, Slot, blocks_in}
 use Rattle.flash_buffers.specs.Covering.{has_label}
-use Rattle.flash_buffers.specs.BufferTable.{dropped, without}
-use Rattle.flash_buffers.specs.Calls.{after, drops}
+use Rattle.flash_buffers.specs.BufferTable.{block_without, slot_without}
+use Rattle.flash_buffers.specs.Calls.{table_after, drops}
 use Rattle.flash_buffers.specs.Sound.{IsSound, IsTaken, free_slot}
 use Rattle.flash_buffers.proofs.SoundLemmas.{block_at, inside_or, below_of}
 
@@ -31,17 +31,17 @@ map_step f xs now i item new inside now_is item_is new_is =
     rw add-one (both ∙ set_step f xs i item inside)
 
 -- the blocks that are left
-pub dropped_blocks : (label : Label) (slots : List Slot) → blocks_in (map (without label) slots) ≡ map (dropped label) (blocks_in slots)
+pub dropped_blocks : (label : Label) (slots : List Slot) → blocks_in (map (slot_without label) slots) ≡ map (block_without label) (blocks_in slots)
 dropped_blocks label [] = refl
-dropped_blocks label (slot ∷ rest) = ap (λ (l : List (Option Block)). dropped label slot.block ∷ l) (dropped_blocks label rest)
+dropped_blocks label (slot ∷ rest) = ap (λ (l : List (Option Block)). block_without label slot.block ∷ l) (dropped_blocks label rest)
 
-pub dropped_sizes : (size : ℕ) (label : Label) (slots : List Slot) → All (λ slot. slot.size ≡ size) slots → All (λ slot. slot.size ≡ size) (map (without label) slots)
+pub dropped_sizes : (size : ℕ) (label : Label) (slots : List Slot) → All (λ slot. slot.size ≡ size) slots → All (λ slot. slot.size ≡ size) (map (slot_without label) slots)
 dropped_sizes size label slots sizes = λ k d inside.
-    (let at : get_or (map (without label) slots) k d ≡ without label (get_or slots k d) = inside_or (map (without label) slots) k d (without label d) inside ∙ get_or-map (without label) slots k d in
-    ap (λ (s : Slot). s.size) at ∙ sizes k d (omega (arith, inside, length-map slots (without label))))
+    (let at : get_or (map (slot_without label) slots) k d ≡ slot_without label (get_or slots k d) = inside_or (map (slot_without label) slots) k d (slot_without label d) inside ∙ get_or-map (slot_without label) slots k d in
+    ap (λ (s : Slot). s.size) at ∙ sizes k d (omega (arith, inside, length-map slots (slot_without label))))
 
 -- a taken buffer is left where it isn't of the label
-left_taken : (label : Label) (block : Option Block) → IsSome block → is_some (dropped label block) ≡ not (has_label label block)
+left_taken : (label : Label) (block : Option Block) → IsSome block → is_some (block_without label block) ≡ not (has_label label block)
 left_taken label None some = absurd (cc some)
 left_taken label (Some block) some = is_left (has_label label (Some block)) block where
   is_left : (of : Bool) (block : Block) → is_some (cond of None (Some block)) ≡ not of
@@ -49,14 +49,14 @@ left_taken label (Some block) some = is_left (has_label label (Some block)) bloc
   is_left false block = refl
 
 -- the block that a number has after
-left_at : (label : Label) (slots : List Slot) (n : ℕ) → (get_or (map (without label) slots) n free_slot).block ≡ dropped label (get_or slots n free_slot).block
-left_at label slots n = ap (λ (s : Slot). s.block) (get_or-map (without label) slots n free_slot)
+left_at : (label : Label) (slots : List Slot) (n : ℕ) → (get_or (map (slot_without label) slots) n free_slot).block ≡ block_without label (get_or slots n free_slot).block
+left_at label slots n = ap (λ (s : Slot). s.block) (get_or-map (slot_without label) slots n free_slot)
 
 -- the queue that is left
-pub dropped_queue : (label : Label) (slots : List Slot) (queue : List ℕ) → AllByRecursion (IsTaken slots) queue → filter (λ n. is_some (get_or (map (without label) slots) n free_slot).block) queue ≡ filter (λ n. not (has_label label (get_or (blocks_in slots) n None))) queue
+pub dropped_queue : (label : Label) (slots : List Slot) (queue : List ℕ) → AllByRecursion (IsTaken slots) queue → filter (λ n. is_some (get_or (map (slot_without label) slots) n free_slot).block) queue ≡ filter (λ n. not (has_label label (get_or (blocks_in slots) n None))) queue
 dropped_queue label slots [] taken = refl
 dropped_queue label slots (n ∷ rest) taken =
-    let test : is_some (get_or (map (without label) slots) n free_slot).block ≡ not (has_label label (get_or (blocks_in slots) n None)) =
+    let test : is_some (get_or (map (slot_without label) slots) n free_slot).block ≡ not (has_label label (get_or (blocks_in slots) n None)) =
     ap (λ (b : Option Block). is_some b) (left_at label slots n) ∙ left_taken label (get_or slots n free_slot).block taken.0.1 ∙ ap (λ (b : Option Block). not (has_label label b)) (sym (block_at slots n)) in
     rw (test, dropped_queue label slots rest taken.1) refl
 
@@ -83,9 +83,9 @@ distinct_left p (n ∷ rest) distinct = keep p n rest (p n) distinct.0 (distinct
   keep p n rest true apart later = (apart_left p n rest apart, later)
   keep p n rest false apart later = later
 
-pub sound_dropped : (size : ℕ) (label : Label) (slots left : List Slot) (queue kept : List ℕ) (room : ℕ) → IsSound size slots queue room → left ≡ map (without label) slots → kept ≡ filter (λ n. is_some (get_or left n free_slot).block) queue → IsSound size left kept room
+pub sound_dropped : (size : ℕ) (label : Label) (slots left : List Slot) (queue kept : List ℕ) (room : ℕ) → IsSound size slots queue room → left ≡ map (slot_without label) slots → kept ≡ filter (λ n. is_some (get_or left n free_slot).block) queue → IsSound size left kept room
 sound_dropped size label slots left queue kept room sound left_is kept_is =
-    let long : length left ≡ length slots = ap (λ (l : List Slot). length l) left_is ∙ length-map slots (without label) in
+    let long : length left ≡ length slots = ap (λ (l : List Slot). length l) left_is ∙ length-map slots (slot_without label) in
     let below : AllByRecursion (λ n. n < length left) queue = subst (λ (n : ℕ). AllByRecursion (λ m. m < n) queue) (sym long) (below_of slots queue sound.taken) in
     record {
       sizes = subst (λ (l : List Slot). All (λ slot. slot.size ≡ size) l) (sym left_is) (dropped_sizes size label slots sound.sizes);
@@ -96,8 +96,8 @@ sound_dropped size label slots left queue kept room sound left_is kept_is =
     }
 
 -- the table that is left
-pub dropped_table : (size : ℕ) (label : Label) (slots left : List Slot) (queue kept : List ℕ) (room : ℕ) (out : Bool) → IsSound size slots queue room → left ≡ map (without label) slots → kept ≡ filter (λ n. is_some (get_or left n free_slot).block) queue → record { size = size; blocks = blocks_in left; queue = kept; out = out } ≡ after (drops label) (record { size = size; blocks = blocks_in slots; queue = queue; out = out })
-dropped_table size label slots left queue kept room out sound left_is kept_is =
-    let blocks : blocks_in left ≡ map (dropped label) (blocks_in slots) = ap (λ (l : List Slot). blocks_in l) left_is ∙ dropped_blocks label slots in
+pub dropped_table : (size : ℕ) (label : Label) (slots left : List Slot) (queue kept : List ℕ) (room : ℕ) (in_flight : Bool) → IsSound size slots queue room → left ≡ map (slot_without label) slots → kept ≡ filter (λ n. is_some (get_or left n free_slot).block) queue → record { size = size; blocks = blocks_in left; queue = kept; in_flight = in_flight } ≡ table_after (drops label) (record { size = size; blocks = blocks_in slots; queue = queue; in_flight = in_flight })
+dropped_table size label slots left queue kept room in_flight sound left_is kept_is =
+    let blocks : blocks_in left ≡ map (block_without label) (blocks_in slots) = ap (λ (l : List Slot). blocks_in l) left_is ∙ dropped_blocks label slots in
     let kept_queue : kept ≡ filter (λ n. not (has_label label (get_or (blocks_in slots) n None))) queue = kept_is ∙ ap (λ (l : List Slot). filter (λ n. is_some (get_or l n free_slot).block) queue) left_is ∙ dropped_queue label slots queue sound.taken in
     rw (blocks, kept_queue) refl

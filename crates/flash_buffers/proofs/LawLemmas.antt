@@ -10,11 +10,11 @@ use Rattle.flash_names.specs.declared.place.Label.{Label}
 use Rattle.flash_names.specs.declared.place.Place.{Place}
 use Rattle.flash_names.specs.Labels.{same_label}
 use Rattle.flash_record.specs.Record.{Parts, record_length, record_bytes}
-use Rattle.flash_record.proofs.Places.{record_bytes_length}
-use Rattle.flash_buffers.specs.Block.{Block, fits_in, parts_in, with_record, place_in, appended_in}
+use Rattle.flash_record.proofs.Offsets.{record_bytes_length}
+use Rattle.flash_buffers.specs.Block.{Block, fits_in, parts_in, with_record, place_in, block_with_record}
 use Rattle.flash_buffers.specs.Covering.{has_label, covers}
-use Rattle.flash_buffers.specs.BufferTable.{BufferTable, first_table, block_of, first_free, IsClear, dropped, first_block, read_of}
-use Rattle.flash_buffers.specs.Calls.{Call, takes, appends, seals, begins, writes, unwrites, drops, Allowed, after, with_taken, with_written}
+use Rattle.flash_buffers.specs.BufferTable.{BufferTable, first_table, block_of, first_free, IsClear, block_without, first_block, read_of}
+use Rattle.flash_buffers.specs.Calls.{Call, takes, appends, seals, begins, writes, unwrites, drops, Allowed, table_after, with_block, with_first_free}
 use Rattle.flash_buffers.specs.Law.{AllAllowed, after_all, Leaves, AllLeave}
 use Rattle.flash_buffers.proofs.ReadLemmas.{label_is, same_self, covering, covers_is, first_byte, read_only, in_records}
 
@@ -105,7 +105,7 @@ taken_apart t label offset number clear apart = λ n m other at one two.
     ]
 
 -- a record that is appended changes no buffer's place
-appended_covers : (size : ℕ) (place : Place) (key : List ℕ) (flags cas : ℕ) (value : List ℕ) (block : Option Block) → covers size place (appended_in size key flags cas value block) ≡ covers size place block
+appended_covers : (size : ℕ) (place : Place) (key : List ℕ) (flags cas : ℕ) (value : List ℕ) (block : Option Block) → covers size place (block_with_record size key flags cas value block) ≡ covers size place block
 appended_covers size place key flags cas value None = refl
 appended_covers size place key flags cas value (Some block) = alike (fits_in size (record_length (parts_in key flags cas value block)) block) (block.records ++ record_bytes (parts_in key flags cas value block)) where
   alike : (fits : Bool) (records : List ℕ) → covers size place (Some (cond fits (record block { records = records }) block)) ≡ covers size place (Some block)
@@ -113,15 +113,15 @@ appended_covers size place key flags cas value (Some block) = alike (fits_in siz
   alike false records = refl
 
 -- what is dropped has no place
-dropped_covers : (size : ℕ) (place : Place) (label : Label) (block : Option Block) → covers size place (dropped label block) ≡ true → covers size place block ≡ true
+dropped_covers : (size : ℕ) (place : Place) (label : Label) (block : Option Block) → covers size place (block_without label block) ≡ true → covers size place block ≡ true
 dropped_covers size place label block has = was (has_label label block) block has where
   was : (of : Bool) (block : Option Block) → covers size place (cond of None block) ≡ true → covers size place block ≡ true
   was true block has = absurd (cc has)
   was false block has = has
 
-step_apart : (t : BufferTable) (call : Call) → Allowed t call → Apart t.size t.blocks → Apart (after call t).size (after call t).blocks
+step_apart : (t : BufferTable) (call : Call) → Allowed t call → Apart t.size t.blocks → Apart (table_after call t).size (table_after call t).blocks
 step_apart t (takes label offset) may apart = taken (first_free t) where
-  taken : (number : Option ℕ) → Apart (with_taken t label offset number).size (with_taken t label offset number).blocks
+  taken : (number : Option ℕ) → Apart (with_block t label offset number).size (with_block t label offset number).blocks
   taken None = apart
   taken (Some number) = taken_apart t label offset number may.clear apart
 step_apart t (appends number key flags cas value) may apart =
@@ -129,12 +129,12 @@ step_apart t (appends number key flags cas value) may apart =
 step_apart t (seals number) may apart = apart
 step_apart t begins may apart = apart
 step_apart t (writes job) may apart = written t.queue where
-  written : (queue : List ℕ) → Apart (with_written t queue).size (with_written t queue).blocks
+  written : (queue : List ℕ) → Apart (with_first_free t queue).size (with_first_free t queue).blocks
   written [] = apart
   written (number ∷ rest) = fewer_apart t.size t.blocks _ (set_fewer t.size t.blocks number None (λ label at has. absurd (cc has))) apart
 step_apart t (unwrites job) may apart = apart
 step_apart t (drops label) may apart =
-    fewer_apart t.size t.blocks _ (λ n other at has. dropped_covers t.size (byte_at other at) label (get_or t.blocks n None) (subst (λ (b : Option Block). covers t.size (byte_at other at) b ≡ true) (get_or-map (dropped label) t.blocks n None) has)) apart
+    fewer_apart t.size t.blocks _ (λ n other at has. dropped_covers t.size (byte_at other at) label (get_or t.blocks n None) (subst (λ (b : Option Block). covers t.size (byte_at other at) b ≡ true) (get_or-map (block_without label) t.blocks n None) has)) apart
 
 -- the block has these bytes at the place, within its records
 record HasAt (size : ℕ) (place : Place) (bytes : List ℕ) (block : Block) : Type 0 where
@@ -153,8 +153,8 @@ other_holds size place bytes n k new blocks other holds = (holds.0, get_or-set_o
 more_bytes : (place : Place) (more : List ℕ) (block : Block) → block.offset ≤ place.offset → place.offset + place.length ≤ block.offset + length block.records → take place.length (drop (place.offset - block.offset) (block.records ++ more)) ≡ take place.length (drop (place.offset - block.offset) block.records)
 more_bytes place more block low high =
     let start : ℕ = place.offset - block.offset in
-    let dropped : drop start (block.records ++ more) ≡ drop start block.records ++ more = drop-append-le start block.records more (omega (arith, low, high)) in
-    ap (λ (l : List ℕ). take place.length l) dropped ∙ take-append-le place.length (drop start block.records) more (omega (arith, low, high, length-drop start block.records))
+    let block_without : drop start (block.records ++ more) ≡ drop start block.records ++ more = drop-append-le start block.records more (omega (arith, low, high)) in
+    ap (λ (l : List ℕ). take place.length l) block_without ∙ take-append-le place.length (drop start block.records) more (omega (arith, low, high, length-drop start block.records))
 
 -- a record more in the same block
 more_has : (size : ℕ) (place : Place) (bytes more : List ℕ) (block : Block) → HasAt size place bytes block → HasAt size place bytes (record block { records = block.records ++ more })
@@ -170,20 +170,20 @@ record_has size place bytes p block has = either (fits_in size (record_length p)
   either true = more_has size place bytes (record_bytes p) block has
   either false = has
 
-step_holds : (t : BufferTable) (place : Place) (bytes : List ℕ) (n : ℕ) (call : Call) → Allowed t call → Leaves t place call → Holds t.size place bytes n t.blocks → Holds (after call t).size place bytes n (after call t).blocks
+step_holds : (t : BufferTable) (place : Place) (bytes : List ℕ) (n : ℕ) (call : Call) → Allowed t call → Leaves t place call → Holds t.size place bytes n t.blocks → Holds (table_after call t).size place bytes n (table_after call t).blocks
 step_holds t place bytes n (takes label offset) may leaves holds = taken (first_free t) refl where
-  taken : (number : Option ℕ) → first_free t ≡ number → Holds (with_taken t label offset number).size place bytes n (with_taken t label offset number).blocks
+  taken : (number : Option ℕ) → first_free t ≡ number → Holds (with_block t label offset number).size place bytes n (with_block t label offset number).blocks
   taken None is = holds
   taken (Some number) is =
       let free : get_or t.blocks number None ≡ None = free_at t.blocks number is in
       other_holds t.size place bytes n number _ t.blocks (λ same. (let none : get_or t.blocks n None ≡ None = subst (λ (k : ℕ). get_or t.blocks k None ≡ None) (sym same) free in let some : get_or t.blocks n None ≡ Some holds.0 = holds.1 in cc)) holds
 step_holds t place bytes n (appends number key flags cas value) may leaves holds =
     elim (eqb_tells n number) [
-      | inl same ↦ (let new : Option Block = appended_in t.size key flags cas value (get_or t.blocks number None) in
+      | inl same ↦ (let new : Option Block = block_with_record t.size key flags cas value (get_or t.blocks number None) in
           let at : get_or t.blocks number None ≡ Some holds.0 = subst (λ (k : ℕ). get_or t.blocks k None ≡ Some holds.0) same.1 holds.1 in
           let there : get_or (set t.blocks number new) n None ≡ new = subst (λ (k : ℕ). get_or (set t.blocks number new) k None ≡ new) (sym same.1) (get_or-set_same t.blocks number new None may.inside) in (
             with_record t.size (parts_in key flags cas value holds.0) holds.0,
-            there ∙ ap (λ (b : Option Block). appended_in t.size key flags cas value b) at,
+            there ∙ ap (λ (b : Option Block). block_with_record t.size key flags cas value b) at,
             record_has t.size place bytes (parts_in key flags cas value holds.0) holds.0 holds.2,
           ))
       | inr other ↦ other_holds t.size place bytes n number _ t.blocks other.1 holds
@@ -191,7 +191,7 @@ step_holds t place bytes n (appends number key flags cas value) may leaves holds
 step_holds t place bytes n (seals number) may leaves holds = holds
 step_holds t place bytes n begins may leaves holds = holds
 step_holds t place bytes n (writes job) may leaves holds = written t.queue leaves where
-  written : (queue : List ℕ) → covers t.size place (first_block t.blocks queue) ≡ false → Holds (with_written t queue).size place bytes n (with_written t queue).blocks
+  written : (queue : List ℕ) → covers t.size place (first_block t.blocks queue) ≡ false → Holds (with_first_free t queue).size place bytes n (with_first_free t queue).blocks
   written [] apart = holds
   written (number ∷ rest) apart = other_holds t.size place bytes n number None t.blocks
       (λ same. (let at : get_or t.blocks number None ≡ Some holds.0 = subst (λ (k : ℕ). get_or t.blocks k None ≡ Some holds.0) same holds.1 in
@@ -203,8 +203,8 @@ step_holds t place bytes n (unwrites job) may leaves holds = holds
 step_holds t place bytes n (drops label) may leaves holds =
     let own : holds.0.label ≡ place.label = label_is holds.0.label place.label (covering t.size place holds.0 holds.2.covers_it).label in
     let other : same_label holds.0.label label ≡ false = subst (λ (l : Label). same_label l label ≡ false) (sym own) leaves in
-    let stays : dropped label (Some holds.0) ≡ Some holds.0 = rw other refl in
-    (holds.0, get_or-map (dropped label) t.blocks n None ∙ ap (dropped label) holds.1 ∙ stays, holds.2)
+    let stays : block_without label (Some holds.0) ≡ Some holds.0 = rw other refl in
+    (holds.0, get_or-map (block_without label) t.blocks n None ∙ ap (block_without label) holds.1 ∙ stays, holds.2)
 
 -- what a buffer holds is read
 held_read : (t : BufferTable) (place : Place) (bytes : List ℕ) (n : ℕ) → 0 < place.length → Apart t.size t.blocks → Holds t.size place bytes n t.blocks → read_of t place ≡ Some bytes
@@ -219,19 +219,19 @@ held_read t place bytes n some apart holds =
 all_read : (t : BufferTable) (place : Place) (bytes : List ℕ) (n : ℕ) (calls : List Call) → 0 < place.length → AllAllowed t calls → AllLeave t place calls → Apart t.size t.blocks → Holds t.size place bytes n t.blocks → read_of (after_all calls t) place ≡ Some bytes
 all_read t place bytes n [] some may leave apart holds = held_read t place bytes n some apart holds
 all_read t place bytes n (call ∷ rest) some may leave apart holds =
-    all_read (after call t) place bytes n rest some may.1 leave.1 (step_apart t call may.0 apart) (step_holds t place bytes n call may.0 leave.0 holds)
+    all_read (table_after call t) place bytes n rest some may.1 leave.1 (step_apart t call may.0 apart) (step_holds t place bytes n call may.0 leave.0 holds)
 
 -- the size of the buffers stays
-pub step_size : (t : BufferTable) (call : Call) → (after call t).size ≡ t.size
+pub step_size : (t : BufferTable) (call : Call) → (table_after call t).size ≡ t.size
 step_size t (takes label offset) = taken (first_free t) where
-  taken : (number : Option ℕ) → (with_taken t label offset number).size ≡ t.size
+  taken : (number : Option ℕ) → (with_block t label offset number).size ≡ t.size
   taken None = refl
   taken (Some number) = refl
 step_size t (appends number key flags cas value) = refl
 step_size t (seals number) = refl
 step_size t begins = refl
 step_size t (writes job) = written t.queue where
-  written : (queue : List ℕ) → (with_written t queue).size ≡ t.size
+  written : (queue : List ℕ) → (with_first_free t queue).size ≡ t.size
   written [] = refl
   written (number ∷ rest) = refl
 step_size t (unwrites job) = refl
@@ -239,11 +239,11 @@ step_size t (drops label) = refl
 
 all_size : (t : BufferTable) (calls : List Call) → (after_all calls t).size ≡ t.size
 all_size t [] = refl
-all_size t (call ∷ rest) = all_size (after call t) rest ∙ step_size t call
+all_size t (call ∷ rest) = all_size (table_after call t) rest ∙ step_size t call
 
 all_apart : (t : BufferTable) (first second : List Call) → AllAllowed t (first ++ second) → Apart t.size t.blocks → Apart (after_all first t).size (after_all first t).blocks × AllAllowed (after_all first t) second
 all_apart t [] second may apart = (apart, may)
-all_apart t (call ∷ rest) second may apart = all_apart (after call t) rest second may.1 (step_apart t call may.0 apart)
+all_apart t (call ∷ rest) second may apart = all_apart (table_after call t) rest second may.1 (step_apart t call may.0 apart)
 
 -- so many free buffers
 abbrev none_of : ℕ → List (Option Block)
@@ -274,7 +274,7 @@ new_has size p block fits =
 abbrev parts_at : List ℕ → ℕ → ℕ → List ℕ → Place → Parts
 parts_at key flags cas value place = record { key = key; flags = flags; cas = cas; version = place.label.version; value = value }
 
-appended_has : (size : ℕ) (key : List ℕ) (flags cas : ℕ) (value : List ℕ) (place : Place) (block : Option Block) → place_in size key flags cas value block ≡ Some place → (new : Block) × (appended_in size key flags cas value block ≡ Some new) × HasAt size place (record_bytes (parts_at key flags cas value place)) new × (0 < place.length)
+appended_has : (size : ℕ) (key : List ℕ) (flags cas : ℕ) (value : List ℕ) (place : Place) (block : Option Block) → place_in size key flags cas value block ≡ Some place → (new : Block) × (block_with_record size key flags cas value block ≡ Some new) × HasAt size place (record_bytes (parts_at key flags cas value place)) new × (0 < place.length)
 appended_has size key flags cas value place None is = absurd (cc is)
 appended_has size key flags cas value place (Some block) is = either (fits_in size (record_length p) block) refl is where
   p : Parts
@@ -292,8 +292,8 @@ appended_has size key flags cas value place (Some block) is = either (fits_in si
 pub kept : (buffers size : ℕ) (first second : List Call) (number : ℕ) (key : List ℕ) (flags cas : ℕ) (value : List ℕ) (place : Place) →
     AllAllowed (first_table buffers size) (first ++ appends number key flags cas value ∷ second)
     → place_in size key flags cas value (block_of (after_all first (first_table buffers size)) number) ≡ Some place
-    → AllLeave (after (appends number key flags cas value) (after_all first (first_table buffers size))) place second
-    → read_of (after_all second (after (appends number key flags cas value) (after_all first (first_table buffers size)))) place ≡ Some (record_bytes (parts_at key flags cas value place))
+    → AllLeave (table_after (appends number key flags cas value) (after_all first (first_table buffers size))) place second
+    → read_of (after_all second (table_after (appends number key flags cas value) (after_all first (first_table buffers size)))) place ≡ Some (record_bytes (parts_at key flags cas value place))
 kept buffers size first second number key flags cas value place may is leave =
     let t : BufferTable = after_all first (first_table buffers size) in
     let call : Call = appends number key flags cas value in
@@ -301,5 +301,5 @@ kept buffers size first second number key flags cas value place may is leave =
     let long : size ≡ t.size = sym (all_size (first_table buffers size) first) in
     let place_is : place_in t.size key flags cas value (block_of t number) ≡ Some place = subst (λ (n : ℕ). place_in n key flags cas value (block_of t number) ≡ Some place) long is in
     let has = appended_has t.size key flags cas value place (block_of t number) place_is in
-    let at : get_or (set t.blocks number (appended_in t.size key flags cas value (block_of t number))) number None ≡ Some has.0 = get_or-set_same t.blocks number _ None before.1.0.inside ∙ has.1 in
-    all_read (after call t) place (record_bytes (parts_at key flags cas value place)) number second has.3 before.1.1 leave (step_apart t call before.1.0 before.0) (has.0, at, has.2)
+    let at : get_or (set t.blocks number (block_with_record t.size key flags cas value (block_of t number))) number None ≡ Some has.0 = get_or-set_same t.blocks number _ None before.1.0.inside ∙ has.1 in
+    all_read (table_after call t) place (record_bytes (parts_at key flags cas value place)) number second has.3 before.1.1 leave (step_apart t call before.1.0 before.0) (has.0, at, has.2)

@@ -2,8 +2,8 @@
 use Rattle.std.proofs.Common.{◌≡◌, ℕ, Bool, true, false, not, cond, List, [], ◌∷◌, ◌++◌, filter, inl, inr, refl, sym, ◌∙◌, subst, append_assoc, append-nil}
 use Rattle.flash_buffers.specs.Covering.{has_label}
 use Rattle.flash_buffers.specs.BufferTable.{BufferTable, block_of}
-use Rattle.flash_buffers.specs.Calls.{Call, takes, appends, seals, begins, writes, unwrites, drops, after}
-use Rattle.flash_buffers.specs.Law.{after_all, sealed_by, written_by, all_sealed, all_written, IsPartOf}
+use Rattle.flash_buffers.specs.Calls.{Call, takes, appends, seals, begins, writes, unwrites, drops, table_after}
+use Rattle.flash_buffers.specs.Law.{after_all, seals_of, writes_of, all_seals, all_writes, IsPartOf}
 use Rattle.flash_buffers.proofs.QueueLemmas.{step_order}
 
 part_same : (xs : List ℕ) → IsPartOf xs xs
@@ -44,7 +44,7 @@ part_filter p (x ∷ xs) = left (p x) x (filter p xs) xs (part_filter p xs) wher
   left false x some all part = part_later some all x part
 
 -- one call keeps the order of what it leaves
-step_part : (t : BufferTable) (call : Call) → IsPartOf (written_by t call ++ (after call t).queue) (t.queue ++ sealed_by call)
+step_part : (t : BufferTable) (call : Call) → IsPartOf (writes_of t call ++ (table_after call t).queue) (t.queue ++ seals_of call)
 step_part t (takes label offset) = part_of_same _ _ (step_order t (takes label offset) tt)
 step_part t (appends number key flags cas value) = part_of_same _ _ (step_order t (appends number key flags cas value) tt)
 step_part t (seals number) = part_of_same _ _ (step_order t (seals number) tt)
@@ -55,14 +55,14 @@ step_part t (drops label) =
     let left : List ℕ = filter (λ n. not (has_label label (block_of t n))) t.queue in
     subst (λ (l : List ℕ). IsPartOf left l) (sym (append-nil t.queue)) (part_filter (λ n. not (has_label label (block_of t n))) t.queue)
 
-pub all_part : (t : BufferTable) (calls : List Call) → IsPartOf (all_written t calls ++ (after_all calls t).queue) (t.queue ++ all_sealed calls)
+pub all_part : (t : BufferTable) (calls : List Call) → IsPartOf (all_writes t calls ++ (after_all calls t).queue) (t.queue ++ all_seals calls)
 all_part t [] = part_of_same t.queue (t.queue ++ []) (append-nil t.queue)
 all_part t (call ∷ rest) =
-    let one : List ℕ = written_by t call in
-    let now : BufferTable = after call t in
+    let one : List ℕ = writes_of t call in
+    let now : BufferTable = table_after call t in
     let end : List ℕ = (after_all rest now).queue in
-    let later : IsPartOf (one ++ (all_written now rest ++ end)) (one ++ (now.queue ++ all_sealed rest)) = part_front one _ _ (all_part now rest) in
-    let here : IsPartOf ((one ++ now.queue) ++ all_sealed rest) ((t.queue ++ sealed_by call) ++ all_sealed rest) = part_back (one ++ now.queue) (t.queue ++ sealed_by call) (all_sealed rest) (step_part t call) in
-    let from : IsPartOf (one ++ (now.queue ++ all_sealed rest)) (t.queue ++ (sealed_by call ++ all_sealed rest)) =
-    subst (λ (l : List ℕ). IsPartOf l (t.queue ++ (sealed_by call ++ all_sealed rest))) (append_assoc one now.queue (all_sealed rest)) (subst (λ (l : List ℕ). IsPartOf ((one ++ now.queue) ++ all_sealed rest) l) (append_assoc t.queue (sealed_by call) (all_sealed rest)) here) in
-    subst (λ (l : List ℕ). IsPartOf l (t.queue ++ (sealed_by call ++ all_sealed rest))) (sym (append_assoc one (all_written now rest) end)) (part_in_turn (one ++ (all_written now rest ++ end)) (one ++ (now.queue ++ all_sealed rest)) (t.queue ++ (sealed_by call ++ all_sealed rest)) later from)
+    let later : IsPartOf (one ++ (all_writes now rest ++ end)) (one ++ (now.queue ++ all_seals rest)) = part_front one _ _ (all_part now rest) in
+    let here : IsPartOf ((one ++ now.queue) ++ all_seals rest) ((t.queue ++ seals_of call) ++ all_seals rest) = part_back (one ++ now.queue) (t.queue ++ seals_of call) (all_seals rest) (step_part t call) in
+    let from : IsPartOf (one ++ (now.queue ++ all_seals rest)) (t.queue ++ (seals_of call ++ all_seals rest)) =
+    subst (λ (l : List ℕ). IsPartOf l (t.queue ++ (seals_of call ++ all_seals rest))) (append_assoc one now.queue (all_seals rest)) (subst (λ (l : List ℕ). IsPartOf ((one ++ now.queue) ++ all_seals rest) l) (append_assoc t.queue (seals_of call) (all_seals rest)) here) in
+    subst (λ (l : List ℕ). IsPartOf l (t.queue ++ (seals_of call ++ all_seals rest))) (sym (append_assoc one (all_writes now rest) end)) (part_in_turn (one ++ (all_writes now rest ++ end)) (one ++ (now.queue ++ all_seals rest)) (t.queue ++ (seals_of call ++ all_seals rest)) later from)

@@ -63,5 +63,5 @@ pub in_records : (place : Place) (size : ℕ) (block : Block) → block.offset �
 in_records place size block low high =
     let start : ℕ = place.offset - block.offset in
     let zeros : List ℕ = replicate (size - length block.records) 0 in
-    let dropped : drop start (block.records ++ zeros) ≡ drop start block.records ++ zeros = drop-append-le start block.records zeros (omega (arith, low, high)) in
-    ap (λ (l : List ℕ). take place.length l) dropped ∙ take-append-le place.length (drop start block.records) zeros (omega (arith, low, high, length-drop start block.records))
+    let block_without : drop start (block.records ++ zeros) ≡ drop start block.records ++ zeros = drop-append-le start block.records zeros (omega (arith, low, high)) in
+    ap (λ (l : List ℕ). take place.length l) block_without ∙ take-append-le place.length (drop start block.records) zeros (omega (arith, low, high, length-drop start block.records))

@@ -7,10 +7,10 @@ use Rattle.std.proofs.lemmas.List.{get_or-set_other}
 use Rattle.std.specs.List.{AllByRecursion}
 use Rattle.flash_names.specs.declared.place.Label.{Label}
 use Rattle.flash_record.specs.Record.{Parts, record_length, record_bytes}
-use Rattle.flash_buffers.specs.Block.{Block, fits_in, parts_in, with_record, appended_in}
+use Rattle.flash_buffers.specs.Block.{Block, fits_in, parts_in, with_record, block_with_record}
 use Rattle.flash_buffers.specs.Covering.{has_label}
-use Rattle.flash_buffers.specs.BufferTable.{BufferTable, first_table, block_of, first_free, dropped}
-use Rattle.flash_buffers.specs.Calls.{Call, takes, appends, seals, begins, writes, unwrites, drops, after, with_taken, with_written}
+use Rattle.flash_buffers.specs.BufferTable.{BufferTable, first_table, block_of, first_free, block_without}
+use Rattle.flash_buffers.specs.Calls.{Call, takes, appends, seals, begins, writes, unwrites, drops, table_after, with_block, with_first_free}
 use Rattle.flash_buffers.specs.Law.{after_all, HasWidths, AllHaveWidths}
 use Rattle.flash_buffers.specs.Records.{bytes_of_all, IsOf, AreRecords}
 use Rattle.flash_buffers.proofs.LawLemmas.{set_at, none_at, step_size}
@@ -80,37 +80,37 @@ set_good blocks k new good all = λ n.
       | inr other ↦ subst GoodAt (sym (get_or-set_other blocks k n new None other.1)) (all n)
     ]
 
-appended_at : (size : ℕ) (number : ℕ) (key : List ℕ) (flags cas : ℕ) (value : List ℕ) (taken : Option Block) → size < 2 ^ 32 → HasWidths (appends number key flags cas value) → GoodAt taken → GoodAt (appended_in size key flags cas value taken)
+appended_at : (size : ℕ) (number : ℕ) (key : List ℕ) (flags cas : ℕ) (value : List ℕ) (taken : Option Block) → size < 2 ^ 32 → HasWidths (appends number key flags cas value) → GoodAt taken → GoodAt (block_with_record size key flags cas value taken)
 appended_at size number key flags cas value None small widths good = none_good None refl
 appended_at size number key flags cas value (Some block) small widths good =
     some_good (with_record size (parts_in key flags cas value block) block) (appended_good size number key flags cas value block small widths (good block refl))
 
-dropped_at : (label : Label) (taken : Option Block) → GoodAt taken → GoodAt (dropped label taken)
+dropped_at : (label : Label) (taken : Option Block) → GoodAt taken → GoodAt (block_without label taken)
 dropped_at label taken good = left (has_label label taken) where
   left : (of : Bool) → GoodAt (cond of None taken)
   left true = none_good None refl
   left false = good
 
-step_good : (t : BufferTable) (call : Call) → t.size < 2 ^ 32 → HasWidths call → AllGood t.blocks → AllGood (after call t).blocks
+step_good : (t : BufferTable) (call : Call) → t.size < 2 ^ 32 → HasWidths call → AllGood t.blocks → AllGood (table_after call t).blocks
 step_good t (takes label offset) small widths all = taken (first_free t) where
-  taken : (number : Option ℕ) → AllGood (with_taken t label offset number).blocks
+  taken : (number : Option ℕ) → AllGood (with_block t label offset number).blocks
   taken None = all
   taken (Some number) = set_good t.blocks number (Some (record { label = label; offset = offset; records = [] })) (some_good (record { label = label; offset = offset; records = [] }) (widths, ([], tt, refl))) all
 step_good t (appends number key flags cas value) small widths all =
-    set_good t.blocks number (appended_in t.size key flags cas value (block_of t number)) (appended_at t.size number key flags cas value (block_of t number) small widths (all number)) all
+    set_good t.blocks number (block_with_record t.size key flags cas value (block_of t number)) (appended_at t.size number key flags cas value (block_of t number) small widths (all number)) all
 step_good t (seals number) small widths all = all
 step_good t begins small widths all = all
 step_good t (writes job) small widths all = written t.queue where
-  written : (queue : List ℕ) → AllGood (with_written t queue).blocks
+  written : (queue : List ℕ) → AllGood (with_first_free t queue).blocks
   written [] = all
   written (number ∷ rest) = set_good t.blocks number None (none_good None refl) all
 step_good t (unwrites job) small widths all = all
-step_good t (drops label) small widths all = λ n. subst GoodAt (sym (get_or-map (dropped label) t.blocks n None)) (dropped_at label (get_or t.blocks n None) (all n))
+step_good t (drops label) small widths all = λ n. subst GoodAt (sym (get_or-map (block_without label) t.blocks n None)) (dropped_at label (get_or t.blocks n None) (all n))
 
 all_good : (t : BufferTable) (calls : List Call) → t.size < 2 ^ 32 → AllHaveWidths calls → AllGood t.blocks → AllGood (after_all calls t).blocks
 all_good t [] small widths all = all
 all_good t (call ∷ rest) small widths all =
-    all_good (after call t) rest (omega (arith, small, step_size t call)) widths.1 (step_good t call small widths.0 all)
+    all_good (table_after call t) rest (omega (arith, small, step_size t call)) widths.1 (step_good t call small widths.0 all)
 
 pub are_records : (buffers size : ℕ) (calls : List Call) (number : ℕ) → size < 2 ^ 32 → AllHaveWidths calls → (block : Block) → block_of (after_all calls (first_table buffers size)) number ≡ Some block → AreRecords block
 are_records buffers size calls number small widths block is =

@@ -8,10 +8,10 @@ use Rattle.std.proofs.lemmas.Grind.{get_or-set_at}
 use Rattle.std.proofs.lemmas.List.Elements.{All-set}
 use Rattle.std.specs.List.{AllByRecursion, IsDistinct, list_any}
 use Rattle.flash_names.specs.declared.place.Label.{Label}
-use Rattle.flash_buffers.specs.Block.{Block, Slot, blocks_in, appended_in}
+use Rattle.flash_buffers.specs.Block.{Block, Slot, blocks_in, block_with_record}
 use Rattle.flash_buffers.proofs.Pigeonhole.{distinct_few}
 use Rattle.flash_buffers.specs.BufferTable.{BufferTable, block_of, first_free}
-use Rattle.flash_buffers.specs.Calls.{with_written, with_taken, after, takes}
+use Rattle.flash_buffers.specs.Calls.{with_first_free, with_block, table_after, takes}
 use Rattle.flash_buffers.specs.Sound.{IsSound, IsTaken, free_slot}
 
 -- the block of a buffer by its number
@@ -28,7 +28,7 @@ inside_or (x ∷ xs) (suc n) d e inside = inside_or xs n d e (omega (arith, insi
 pub number_inside : (t : BufferTable) (slots : List Slot) (n : ℕ) → blocks_in slots ≡ t.blocks → n < length t.blocks → n < length slots
 number_inside t slots n same inside = omega (arith, inside, ap (λ (l : List (Option Block)). length l) same, length-map slots (λ slot. slot.block))
 
-pub appended_blocks : (size : ℕ) (slots : List Slot) (n : ℕ) (old new : Slot) (key : List ℕ) (flags cas : ℕ) (value : List ℕ) → All (λ slot. slot.size ≡ size) slots → n < length slots → old ≡ get_or slots n old → new ≡ record old { block = appended_in old.size key flags cas value old.block } → blocks_in (set slots n new) ≡ set (blocks_in slots) n (appended_in size key flags cas value (get_or (blocks_in slots) n None))
+pub appended_blocks : (size : ℕ) (slots : List Slot) (n : ℕ) (old new : Slot) (key : List ℕ) (flags cas : ℕ) (value : List ℕ) → All (λ slot. slot.size ≡ size) slots → n < length slots → old ≡ get_or slots n old → new ≡ record old { block = block_with_record old.size key flags cas value old.block } → blocks_in (set slots n new) ≡ set (blocks_in slots) n (block_with_record size key flags cas value (get_or (blocks_in slots) n None))
 appended_blocks size slots n old new key flags cas value sizes inside is new_is =
     let same : old ≡ get_or slots n free_slot = is ∙ inside_or slots n old free_slot inside in
     let block : old.block ≡ get_or (blocks_in slots) n None = ap (λ (s : Slot). s.block) same ∙ sym (block_at slots n) in
@@ -112,10 +112,10 @@ sound_written size slots (m ∷ rest) room n slot sound some first long =
       distinct = sound.distinct.1;
     })
 
-pub written_table : (size : ℕ) (slots : List Slot) (queue : List ℕ) (out : Bool) (n : ℕ) (slot : Slot) → 0 < length queue → n ≡ get_or queue 0 n → slot.block ≡ None → record { size = size; blocks = blocks_in (set slots n slot); queue = drop 1 queue; out = false } ≡ with_written (record { size = size; blocks = blocks_in slots; queue = queue; out = out }) queue
-written_table size slots [] out n slot some first free = absurd (omega (arith, some))
-written_table size slots (m ∷ rest) out n slot some first free =
-    ap (λ (blocks : List (Option Block)). record { size = size; blocks = blocks; queue = rest; out = false }) (map-set (λ s. s.block) slots n slot ∙ rw (first, free) refl)
+pub written_table : (size : ℕ) (slots : List Slot) (queue : List ℕ) (in_flight : Bool) (n : ℕ) (slot : Slot) → 0 < length queue → n ≡ get_or queue 0 n → slot.block ≡ None → record { size = size; blocks = blocks_in (set slots n slot); queue = drop 1 queue; in_flight = false } ≡ with_first_free (record { size = size; blocks = blocks_in slots; queue = queue; in_flight = in_flight }) queue
+written_table size slots [] in_flight n slot some first free = absurd (omega (arith, some))
+written_table size slots (m ∷ rest) in_flight n slot some first free =
+    ap (λ (blocks : List (Option Block)). record { size = size; blocks = blocks; queue = rest; in_flight = false }) (map-set (λ s. s.block) slots n slot ∙ rw (first, free) refl)
 
 -- a taken buffer by its number
 pub number_taken : (t : BufferTable) (slots : List Slot) (n : ℕ) → blocks_in slots ≡ t.blocks → n < length t.blocks → IsSome (block_of t n) → IsTaken slots n
@@ -123,11 +123,11 @@ number_taken t slots n same inside some =
     (number_inside t slots n same inside, subst (λ (b : Option Block). IsSome b) (ap (λ (l : List (Option Block)). get_or l n None) (sym same) ∙ block_at slots n) some)
 
 -- a free buffer is taken by a block
-pub taken_table : (t : BufferTable) (slots : List Slot) (n : ℕ) (label : Label) (offset : ℕ) (new : Slot) → blocks_in slots ≡ t.blocks → first_free t ≡ Some n → new.block ≡ Some (record { label = label; offset = offset; records = [] }) → record t { blocks = blocks_in (set slots n new) } ≡ after (takes label offset) t
+pub taken_table : (t : BufferTable) (slots : List Slot) (n : ℕ) (label : Label) (offset : ℕ) (new : Slot) → blocks_in slots ≡ t.blocks → first_free t ≡ Some n → new.block ≡ Some (record { label = label; offset = offset; records = [] }) → record t { blocks = blocks_in (set slots n new) } ≡ table_after (takes label offset) t
 taken_table t slots n label offset new same first block =
     let blocks : blocks_in (set slots n new) ≡ set t.blocks n (Some (record { label = label; offset = offset; records = [] })) =
     map-set (λ slot. slot.block) slots n new ∙ rw (same, block) refl in
-    ap (λ (l : List (Option Block)). record t { blocks = l }) blocks ∙ ap (with_taken t label offset) (sym first)
+    ap (λ (l : List (Option Block)). record t { blocks = l }) blocks ∙ ap (with_block t label offset) (sym first)
 
 -- the first buffers
 pub sound_first : (size n : ℕ) (slots : List Slot) (queue : List ℕ) (room : ℕ) → slots ≡ replicate n (record { size = size; block = None }) → queue ≡ [] → n < 2 ^ 32 → n ≤ room → IsSound size slots queue room

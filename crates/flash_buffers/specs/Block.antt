@@ -51,5 +51,5 @@ abbrev pub place_in : ℕ → List ℕ → ℕ → ℕ → List ℕ → Option B
 place_in size key flags cas value block = option_and_then (λ b. next_place size (parts_in key flags cas value b) b) block
 
 -- a buffer's block with the record after the others, where it is taken and the record fits
-abbrev pub appended_in : ℕ → List ℕ → ℕ → ℕ → List ℕ → Option Block → Option Block
-appended_in size key flags cas value block = option_map (λ b. with_record size (parts_in key flags cas value b) b) block
+abbrev pub block_with_record : ℕ → List ℕ → ℕ → ℕ → List ℕ → Option Block → Option Block
+block_with_record size key flags cas value block = option_map (λ b. with_record size (parts_in key flags cas value b) b) block

@@ -12,11 +12,11 @@ pub record BufferTable : Type 0 where
   pub size : ℕ
   pub blocks : List (Option Block)
   pub queue : List ℕ
-  pub out : Bool
+  pub in_flight : Bool
 
 -- all buffers are free, and the spare is there
 abbrev pub first_table : ℕ → ℕ → BufferTable
-first_table buffers size = record { size = size; blocks = replicate buffers None; queue = []; out = false }
+first_table buffers size = record { size = size; blocks = replicate buffers None; queue = []; in_flight = false }
 
 -- the block of a buffer
 abbrev pub block_of : BufferTable → ℕ → Option Block
@@ -50,13 +50,13 @@ first_block blocks [] = None
 first_block blocks (number ∷ rest) = slice_index_or blocks number None
 
 -- the block that is written next, or that is out
-abbrev pub oldest : BufferTable → Option Block
-oldest t = first_block t.blocks t.queue
+abbrev pub oldest_block : BufferTable → Option Block
+oldest_block t = first_block t.blocks t.queue
 
 -- free where it is a block of this label
-abbrev pub dropped : Label → Option Block → Option Block
-dropped label block = if has_label label block then None else block
+abbrev pub block_without : Label → Option Block → Option Block
+block_without label block = if has_label label block then None else block
 
 -- the same of a buffer
-abbrev pub without : Label → Slot → Slot
-without label slot = record slot { block = dropped label slot.block }
+abbrev pub slot_without : Label → Slot → Slot
+slot_without label slot = record slot { block = block_without label slot.block }

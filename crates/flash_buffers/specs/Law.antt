@@ -3,18 +3,18 @@ use Rattle.std.specs.Prelude.{◌≡◌, ℕ, ◌^◌, ◌<◌, ◌≤◌, ◌�
 use Rattle.flash_names.specs.declared.place.Place.{Place}
 use Rattle.flash_names.specs.Labels.{same_label}
 use Rattle.flash_buffers.specs.Covering.{covers}
-use Rattle.flash_buffers.specs.BufferTable.{BufferTable, oldest}
-use Rattle.flash_buffers.specs.Calls.{Call, takes, appends, seals, begins, writes, unwrites, drops, Allowed, after}
+use Rattle.flash_buffers.specs.BufferTable.{BufferTable, oldest_block}
+use Rattle.flash_buffers.specs.Calls.{Call, takes, appends, seals, begins, writes, unwrites, drops, Allowed, table_after}
 
 -- each of the calls may be made when it comes
 abbrev pub AllAllowed : BufferTable → List Call → Type 0
 AllAllowed t [] = Unit {0}
-AllAllowed t (call ∷ rest) = Allowed t call × AllAllowed (after call t) rest
+AllAllowed t (call ∷ rest) = Allowed t call × AllAllowed (table_after call t) rest
 
 -- the buffers after the calls, the first one first
 abbrev pub after_all : List Call → BufferTable → BufferTable
 after_all [] t = t
-after_all (call ∷ rest) t = after_all rest (after call t)
+after_all (call ∷ rest) t = after_all rest (table_after call t)
 
 -- the call neither says that the block of this place was written nor drops the place's label
 abbrev pub Leaves : BufferTable → Place → Call → Type 0
@@ -22,14 +22,14 @@ Leaves t place (takes label offset) = Unit {0}
 Leaves t place (appends number key flags cas value) = Unit {0}
 Leaves t place (seals number) = Unit {0}
 Leaves t place begins = Unit {0}
-Leaves t place (writes job) = covers t.size place (oldest t) ≡ false
+Leaves t place (writes job) = covers t.size place (oldest_block t) ≡ false
 Leaves t place (unwrites job) = Unit {0}
 Leaves t place (drops label) = same_label place.label label ≡ false
 
 -- none of the calls does
 abbrev pub AllLeave : BufferTable → Place → List Call → Type 0
 AllLeave t place [] = Unit {0}
-AllLeave t place (call ∷ rest) = Leaves t place call × AllLeave (after call t) place rest
+AllLeave t place (call ∷ rest) = Leaves t place call × AllLeave (table_after call t) place rest
 
 -- the call doesn't give the job back
 abbrev pub KeepsJob : Call → Type 0
@@ -62,34 +62,34 @@ AllDropNone [] = Unit {0}
 AllDropNone (call ∷ rest) = DropsNone call × AllDropNone rest
 
 -- the number of the buffer that the call seals
-abbrev pub sealed_by : Call → List ℕ
-sealed_by (takes label offset) = []
-sealed_by (appends number key flags cas value) = []
-sealed_by (seals number) = number ∷ []
-sealed_by begins = []
-sealed_by (writes job) = []
-sealed_by (unwrites job) = []
-sealed_by (drops label) = []
+abbrev pub seals_of : Call → List ℕ
+seals_of (takes label offset) = []
+seals_of (appends number key flags cas value) = []
+seals_of (seals number) = number ∷ []
+seals_of begins = []
+seals_of (writes job) = []
+seals_of (unwrites job) = []
+seals_of (drops label) = []
 
 -- the number of the buffer that the call says was written
-abbrev pub written_by : BufferTable → Call → List ℕ
-written_by t (takes label offset) = []
-written_by t (appends number key flags cas value) = []
-written_by t (seals number) = []
-written_by t begins = []
-written_by t (writes job) = take 1 t.queue
-written_by t (unwrites job) = []
-written_by t (drops label) = []
+abbrev pub writes_of : BufferTable → Call → List ℕ
+writes_of t (takes label offset) = []
+writes_of t (appends number key flags cas value) = []
+writes_of t (seals number) = []
+writes_of t begins = []
+writes_of t (writes job) = take 1 t.queue
+writes_of t (unwrites job) = []
+writes_of t (drops label) = []
 
 -- the numbers of the buffers that all the calls seal, in their order
-abbrev pub all_sealed : List Call → List ℕ
-all_sealed [] = []
-all_sealed (call ∷ rest) = sealed_by call ++ all_sealed rest
+abbrev pub all_seals : List Call → List ℕ
+all_seals [] = []
+all_seals (call ∷ rest) = seals_of call ++ all_seals rest
 
 -- the numbers of the buffers that all the calls say were written, in their order
-abbrev pub all_written : BufferTable → List Call → List ℕ
-all_written t [] = []
-all_written t (call ∷ rest) = written_by t call ++ all_written (after call t) rest
+abbrev pub all_writes : BufferTable → List Call → List ℕ
+all_writes t [] = []
+all_writes t (call ∷ rest) = writes_of t call ++ all_writes (table_after call t) rest
 
 -- the call's numbers have the widths of their types, and its key is one
 abbrev pub HasWidths : Call → Type 0

@@ -1,7 +1,7 @@
 ghost use Rattle.std.specs.Prelude.{◌≡◌, ℕ, ◌+◌, ◌-◌, ◌^◌, ◌<◌, ◌≤◌, ◌++◌, nat_le, if◌then◌else◌, take, drop, replicate, IfNone, length, IfOk, IfSome, IsTrue, is_none, [], Option, Some, None, option_map};
 ghost use Rattle.flash_record.specs.Record.{Parts, record_bytes, record_length};
-ghost use Rattle.flash_buffers.specs.Block.{Slot, block_bytes, block_place, fits_in, place_in, appended_in};
-ghost use Rattle.flash_buffers.specs.BufferTable.{without};
+ghost use Rattle.flash_buffers.specs.Block.{Slot, block_bytes, block_place, fits_in, place_in, block_with_record};
+ghost use Rattle.flash_buffers.specs.BufferTable.{slot_without};
 ghost use Rattle.flash_buffers.specs.Covering.{has_label, covers, bytes_in};
 
 use flash_names::{Key, Label, Place};
@@ -84,7 +84,7 @@ impl Buffer {
 
     /// Frees it, if it is taken by a block of this label.
     pub fn drop_label(&mut self, label: Label)
-        ensures { self.new ≡ without label self.old }
+        ensures { self.new ≡ slot_without label self.old }
     {
         if self.has_label(label) {
             self.clear();
@@ -143,7 +143,7 @@ impl Buffer {
     /// answers its place; `None` where it doesn't fit.
     pub fn append(&mut self, key: &Key, flags: u32, cas: u64, value: &[u8]) -> Option<Place>
         ensures place { result ≡ place_in self.old.size key.now flags cas value.now self.old.block }
-        ensures after { self.new ≡ record self.old { block = appended_in self.old.size key.now flags cas value.now self.old.block } }
+        ensures after { self.new ≡ record self.old { block = block_with_record self.old.size key.now flags cas value.now self.old.block } }
     {
         let label = self.label?;
         let used = self.used;

@@ -3,7 +3,7 @@ ghost use Rattle.std.specs.Option.{option_copied};
 ghost use Rattle.std.specs.List.{position_from};
 ghost use Rattle.flash_buffers.specs.Block.{Slot, blocks_in, block_bytes, fits_in, place_in};
 ghost use Rattle.flash_buffers.specs.Covering.{covers, bytes_in, read_in};
-ghost use Rattle.flash_buffers.specs.BufferTable.{dropped, without, first_table, block_of, first_free, IsOpen, read_of, first_block};
+ghost use Rattle.flash_buffers.specs.BufferTable.{block_without, slot_without, first_table, block_of, first_free, IsOpen, read_of, first_block};
 ghost use Rattle.flash_buffers.specs.Sound.{free_slot, Covers};
 
 use crate::buffer::Buffer;
@@ -46,13 +46,13 @@ impl Model for Buffers {
 
     ghost Value = { BufferTable };
 
-    ghost view = { λ b. record { size = b.size; blocks = blocks_in b.rows.items; queue = b.queue.items; out = is_none b.spare } };
+    ghost view = { λ b. record { size = b.size; blocks = blocks_in b.rows.items; queue = b.queue.items; in_flight = is_none b.spare } };
 
     ghost invariant = { λ b. IsSound b.size b.rows.items b.queue.items (vec_capacity b.queue) × ForSome b.spare (λ bytes. length bytes ≡ b.size) };
 }
 
 impl Buffers {
-    ghost use Rattle.flash_buffers.specs.Calls.{after, takes, appends, seals, begins, writes, unwrites, drops, next_job, is_idle, IsOut, IsNotOut, CanTake};
+    ghost use Rattle.flash_buffers.specs.Calls.{table_after, takes, appends, seals, begins, writes, unwrites, drops, next_job, is_idle, IsInFlight, IsNotInFlight, CanTake};
 
     /// So many free buffers of so many bytes, and one spare, or an error where memory runs out. No later call answers that.
     pub fn open(alloc: Global, buffers: u32, size: u32) -> Result<Buffers, AllocError>
@@ -83,7 +83,7 @@ impl Buffers {
     pub fn take(&mut self, label: Label, offset: u32) -> Option<BufferId>
         requires { CanTake self.old label offset }
         ensures exact { result ≡ option_map (λ number. record { number = number }) (first_free self.old) }
-        ensures after { self.new ≡ after (takes label offset) self.old }
+        ensures after { self.new ≡ table_after (takes label offset) self.old }
     {
         let number = first_free(&self.rows)?;
         let row = &mut self.rows[number as usize];
@@ -113,7 +113,7 @@ impl Buffers {
     ) -> Option<Place>
         requires { IsOpen self.old id.number }
         ensures place { result ≡ place_in self.old.size key.now flags cas value.now (block_of self.old id.number) }
-        ensures after { self.new ≡ after (appends id.number key.now flags cas value.now) self.old }
+        ensures after { self.new ≡ table_after (appends id.number key.now flags cas value.now) self.old }
     {
         let row = &mut self.rows[id.number as usize];
         row.append(key, flags, cas, value)
@@ -123,7 +123,7 @@ impl Buffers {
     /// sealed.
     pub fn seal(&mut self, id: BufferId)
         requires { IsOpen self.old id.number }
-        ensures { self.new ≡ after (seals id.number) self.old }
+        ensures { self.new ≡ table_after (seals id.number) self.old }
     {
         put_last(&mut self.queue, id.number);
     }
@@ -134,7 +134,7 @@ impl Buffers {
         ensures exact { result ≡ next_job self.old }
         ensures whole { IfSome result (λ job. length job.bytes ≡ self.old.size) }
         ensures none { (result ≡ None) ↔ IsTrue (is_idle self.old) }
-        ensures after { self.new ≡ after begins self.old }
+        ensures after { self.new ≡ table_after begins self.old }
     {
         let number = *self.queue.first()?;
         let place = self.rows[number as usize].place()?;
@@ -148,8 +148,8 @@ impl Buffers {
 
     /// Takes back the job of a block that was written: its buffer is free. It has to be the job that is out.
     pub fn written(&mut self, job: WriteJob)
-        requires { IsOut self.old job }
-        ensures { self.new ≡ after (writes job) self.old }
+        requires { IsInFlight self.old job }
+        ensures { self.new ≡ table_after (writes job) self.old }
     {
         self.take_back(job);
         let number = self.queue.remove(0);
@@ -160,16 +160,16 @@ impl Buffers {
     /// Takes back the job of a block that wasn't written: its buffer is still the first of the queue. It has to
     /// be the job that is out.
     pub fn unwritten(&mut self, job: WriteJob)
-        requires { IsOut self.old job }
-        ensures { self.new ≡ after (unwrites job) self.old }
+        requires { IsInFlight self.old job }
+        ensures { self.new ≡ table_after (unwrites job) self.old }
     {
         self.take_back(job);
     }
 
     /// Frees the buffers of the label. No job of the label may be out.
     pub fn drop_of(&mut self, label: Label)
-        requires { IsNotOut self.old label }
-        ensures { self.new ≡ after (drops label) self.old }
+        requires { IsNotInFlight self.old label }
+        ensures { self.new ≡ table_after (drops label) self.old }
     {
         clear_label(&mut self.rows, label);
         keep_taken(&mut self.queue, &self.rows);
@@ -187,8 +187,8 @@ impl Buffers {
 
     // The job's bytes are the spare again: they are as many as the bytes of each buffer.
     fn take_back(&mut self, job: WriteJob)
-        requires { IsOut self.old job }
-        ensures { self.new ≡ after (unwrites job) self.old }
+        requires { IsInFlight self.old job }
+        ensures { self.new ≡ table_after (unwrites job) self.old }
     {
         // Read for the proof: the first buffer's size is the spare's.
         let row = &self.rows[self.queue[0] as usize];
@@ -246,7 +246,7 @@ fn put_last(queue: &mut Vec<u32>, number: u32)
 
 // Clears the buffers of the label.
 fn clear_label(rows: &mut [Buffer], label: Label)
-    ensures { rows.new ≡ map (without label) rows.old }
+    ensures { rows.new ≡ map (slot_without label) rows.old }
 {
     'rows: for row in rows.iter_mut() {
         row.drop_label(label);

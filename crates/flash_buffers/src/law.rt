@@ -5,8 +5,8 @@ ghost use Rattle.flash_buffers.specs.declared.buffers.WriteJob.{WriteJob};
 ghost use Rattle.flash_record.specs.Record.{Parts, record_bytes};
 ghost use Rattle.flash_buffers.specs.Block.{place_in};
 ghost use Rattle.flash_buffers.specs.BufferTable.{BufferTable, first_table, block_of, read_of};
-ghost use Rattle.flash_buffers.specs.Calls.{Call, appends, after, IsOut};
-ghost use Rattle.flash_buffers.specs.Law.{AllAllowed, after_all, AllLeave, NoneGivesBack, AllDropNone, all_sealed, all_written, IsPartOf, AllHaveWidths};
+ghost use Rattle.flash_buffers.specs.Calls.{Call, appends, table_after, IsInFlight};
+ghost use Rattle.flash_buffers.specs.Law.{AllAllowed, after_all, AllLeave, NoneGivesBack, AllDropNone, all_seals, all_writes, IsPartOf, AllHaveWidths};
 ghost use Rattle.flash_buffers.specs.Records.{AreRecords};
 
 /// What holds over any list of calls that each may be made: a record that was appended is read until its
@@ -20,20 +20,20 @@ pub fn keeps_the_law()
         let p : Parts = record { key = key; flags = flags; cas = cas; version = place.label.version; value = value } in
         AllAllowed (first_table buffers size) (first ++ call ∷ second)
         → place_in size key flags cas value (block_of before number) ≡ Some place
-        → AllLeave (after call before) place second
-        → read_of (after_all second (after call before)) place ≡ Some (record_bytes p) }
+        → AllLeave (table_after call before) place second
+        → read_of (after_all second (table_after call before)) place ≡ Some (record_bytes p) }
 
     // Whatever happens while a job is out, it may be given back.
     ensures out { (t : BufferTable) (job : WriteJob) (calls : List Call) →
-        AllAllowed t calls → NoneGivesBack calls → IsOut t job → IsOut (after_all calls t) job }
+        AllAllowed t calls → NoneGivesBack calls → IsInFlight t job → IsInFlight (after_all calls t) job }
 
     // Where no label is dropped, the buffers in the queue and those that are sealed are written in their order.
     ensures in_order { (t : BufferTable) (calls : List Call) →
-        AllDropNone calls → t.queue ++ all_sealed calls ≡ all_written t calls ++ (after_all calls t).queue }
+        AllDropNone calls → t.queue ++ all_seals calls ≡ all_writes t calls ++ (after_all calls t).queue }
 
     // Where labels are dropped, some of these are left out, and the others are written in their order.
     ensures part { (t : BufferTable) (calls : List Call) →
-        IsPartOf (all_written t calls ++ (after_all calls t).queue) (t.queue ++ all_sealed calls) }
+        IsPartOf (all_writes t calls ++ (after_all calls t).queue) (t.queue ++ all_seals calls) }
 
     // The bytes of a block are whole records of its version, one after the other.
     ensures records { (buffers size : ℕ) (calls : List Call) (number : ℕ) →

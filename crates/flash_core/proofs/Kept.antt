@@ -4,7 +4,7 @@ use Rattle.std.specs.List.{AllByRecursion}
 use Rattle.std.specs.Str.{bytes_eq}
 use Rattle.flash_core.specs.declared.item.Item.{Item}
 use Rattle.flash_core.specs.Items.{find_item, without, replaced, keys_of, HaveOwnKeys, AreKept}
-use Rattle.flash_core.specs.Places.{IsPlace, removed}
+use Rattle.flash_core.specs.Indexes.{IsIndex, without_index}
 use Rattle.flash_core.specs.Calls.{keys_without}
 use Rattle.flash_core.proofs.Keys.{same_key, bytes_eq-refl}
 use Rattle.flash_core.proofs.Pairs.{find-without, find-replaced, behind_other}
@@ -121,6 +121,6 @@ without-absent k [] none = refl
 without-absent k (i ∷ is) none = absent_step k i is (bytes_eq k i.key) none (without-absent k is)
 
 -- what a place takes away is the key's item
-pub removed_is_without : (k : List ℕ) (is : List Item) (place : Option ℕ) → IsPlace k is place → removed place is ≡ without k is
+pub removed_is_without : (k : List ℕ) (is : List Item) (index : Option ℕ) → IsIndex k is index → without_index index is ≡ without k is
 removed_is_without k is None none = sym (without-absent k is none)
-removed_is_without k is (Some at) place = sym place.others
+removed_is_without k is (Some at) index = sym index.others

@@ -9,18 +9,18 @@ use Rattle.flash_machine.specs.Moments.{is_reached}
 use Rattle.flash_machine.specs.Cache.{Cache}
 use Rattle.flash_core.specs.declared.item.Item.{Item}
 use Rattle.flash_core.specs.Items.{find_item, without, item_of, items_of, keys_of, cache_of_items, HaveOwnKeys, IsKept, AreKept}
-use Rattle.flash_core.specs.Places.{IsPlace, removed, in_front}
+use Rattle.flash_core.specs.Indexes.{IsIndex, without_index, in_front}
 use Rattle.flash_core.specs.Store.{Desk, Call}
-use Rattle.flash_core.specs.Calls.{drop_of, is_dead_at, swept, sweep}
-use Rattle.flash_core.specs.Choice.{cached_item, leaving}
+use Rattle.flash_core.specs.Calls.{drop_of, is_expired_at, sweep_step, sweep}
+use Rattle.flash_core.specs.Choice.{cached_item, index_removed}
 use Rattle.flash_core.proofs.Pairs.{get-items, items_of-without}
 use Rattle.flash_core.proofs.Kept.{none-without, all_found, keys_of-without, removed_is_without}
 use Rattle.flash_core.proofs.Sweeps.{IsHere}
 
 -- what is at a key's place is its first item
-pub found_at : (key : List ℕ) (items : List Item) (place : Option ℕ) → IsPlace key items place → option_and_then (slice_get items) place ≡ find_item key items
+pub found_at : (key : List ℕ) (items : List Item) (index : Option ℕ) → IsIndex key items index → option_and_then (slice_get items) index ≡ find_item key items
 found_at key items None none = sym none
-found_at key items (Some at) place = sym place.found
+found_at key items (Some at) index = sym index.found
 
 or_false : (b : Bool) → (b || false) ≡ b
 or_false true = refl
@@ -49,27 +49,27 @@ module _ (items : List Item) (moment last : ℕ) (key : List ℕ) (item_max : �
       label_of None item is = absurd (cc is)
       label_of (Some i) item is = let same : item_of i ≡ item = cc in ap (λ (j : machine.Item). j.label) (sym same)
 
-  dead_found : (found : Option Item) → find_item key items ≡ found → is_dead_at c (option_map item_of found) ≡ option_map_or (λ item. is_reached item.deadline moment) found false
+  dead_found : (found : Option Item) → find_item key items ≡ found → is_expired_at c (option_map item_of found) ≡ option_map_or (λ item. is_reached item.deadline moment) found false
   dead_found None here = refl
   dead_found (Some i) here =
       ap (λ b. is_reached i.deadline moment || b) (not_flushed i.cas (all_found (IsKept item_max last) key items i kept here).some) ∙ or_false (is_reached i.deadline moment)
 
   -- whether the sweep drops the key's item
-  pub dead_is : (dead : Bool) (place : Option ℕ) → IsPlace key items place → dead ≡ option_map_or (λ item. is_reached item.deadline moment) (option_and_then (slice_get items) place) false
-      → dead ≡ is_dead_at c (finite.get c.items key)
-  dead_is dead place at is =
-      is ∙ ap (λ (found : Option Item). option_map_or (λ item. is_reached item.deadline moment) found false) (found_at key items place at)
-      ∙ sym (dead_found (find_item key items) refl) ∙ ap (is_dead_at c) (sym (get-items items key))
+  pub dead_is : (dead : Bool) (index : Option ℕ) → IsIndex key items index → dead ≡ option_map_or (λ item. is_reached item.deadline moment) (option_and_then (slice_get items) index) false
+      → dead ≡ is_expired_at c (finite.get c.items key)
+  dead_is dead index at is =
+      is ∙ ap (λ (found : Option Item). option_map_or (λ item. is_reached item.deadline moment) found false) (found_at key items index at)
+      ∙ sym (dead_found (find_item key items) refl) ∙ ap (is_expired_at c) (sym (get-items items key))
 
   -- the sweep by the code's test
-  pub sweep_is : (dead : Bool) → dead ≡ is_dead_at c (finite.get c.items key) → sweep c (desk_of items) key ≡ swept c (desk_of items) key dead
-  sweep_is dead is = ap (swept c (desk_of items) key) (sym is)
+  pub sweep_is : (dead : Bool) → dead ≡ is_expired_at c (finite.get c.items key) → sweep c (desk_of items) key ≡ sweep_step c (desk_of items) key dead
+  sweep_is dead is = ap (sweep_step c (desk_of items) key) (sym is)
 
-  pub swept_cache : (dead : Bool) → (swept c (desk_of items) key dead).cache ≡ cache_of_items (swept_items dead key items) moment last
+  pub swept_cache : (dead : Bool) → (sweep_step c (desk_of items) key dead).cache ≡ cache_of_items (swept_items dead key items) moment last
   swept_cache true = ap (λ m. record c { items = m }) (sym (items_of-without key items own))
   swept_cache false = refl
 
-  pub swept_desk : (dead : Bool) → (swept c (desk_of items) key dead).desk ≡ desk_of (swept_items dead key items)
+  pub swept_desk : (dead : Bool) → (sweep_step c (desk_of items) key dead).desk ≡ desk_of (swept_items dead key items)
   swept_desk true = ap (λ (keys : List (List ℕ)). record { hot = keys }) (sym (keys_of-without key items))
   swept_desk false = refl
 
@@ -77,31 +77,31 @@ module _ (items : List Item) (moment last : ℕ) (key : List ℕ) (item_max : �
   abbrev pub swept_call : Bool → Call Bool
   swept_call dead = record { entries = drop_of key dead; cache = cache_of_items (swept_items dead key items) moment last; desk = desk_of (swept_items dead key items); answer = dead }
 
-  swept_parts : (dead : Bool) → swept c (desk_of items) key dead ≡ record { entries = drop_of key dead; cache = (swept c (desk_of items) key dead).cache; desk = (swept c (desk_of items) key dead).desk; answer = dead }
+  swept_parts : (dead : Bool) → sweep_step c (desk_of items) key dead ≡ record { entries = drop_of key dead; cache = (sweep_step c (desk_of items) key dead).cache; desk = (sweep_step c (desk_of items) key dead).desk; answer = dead }
   swept_parts true = refl
   swept_parts false = refl
 
-  pub swept_call_is : (dead : Bool) → dead ≡ is_dead_at c (finite.get c.items key) → sweep c (desk_of items) key ≡ swept_call dead
+  pub swept_call_is : (dead : Bool) → dead ≡ is_expired_at c (finite.get c.items key) → sweep c (desk_of items) key ≡ swept_call dead
   swept_call_is dead is =
       sweep_is dead is ∙ swept_parts dead ∙ (λ j. record { entries = drop_of key dead; cache = swept_cache dead j; desk = swept_desk dead j; answer = dead })
 
   -- the live item by the code's test
-  pub live_is : (dead : Bool) (place : Option ℕ) (live : Option Item) → IsPlace key items place → live ≡ (if dead then None else option_and_then (slice_get items) place)
+  pub live_is : (dead : Bool) (index : Option ℕ) (live : Option Item) → IsIndex key items index → live ≡ (if dead then None else option_and_then (slice_get items) index)
       → cached_item live ≡ finite.get (items_of (swept_items dead key items)) key
-  live_is true place live at is = ap cached_item is ∙ sym (get-items (without key items) key ∙ ap (option_map item_of) (none-without key items own))
-  live_is false place live at is = ap cached_item (is ∙ found_at key items place at) ∙ sym (get-items items key)
+  live_is true index live at is = ap cached_item is ∙ sym (get-items (without key items) key ∙ ap (option_map item_of) (none-without key items own))
+  live_is false index live at is = ap cached_item (is ∙ found_at key items index at) ∙ sym (get-items items key)
 
   -- the items after a store that chose a refusal or an item
-  pub after_items : (dead : Bool) (place : Option ℕ) (item : Option Item) → IsPlace key items place
-      → in_front item (removed (leaving place (dead || is_some item)) items) ≡ in_front item (swept_items (dead || is_some item) key items)
-  after_items dead place item at = leaves (dead || is_some item)
+  pub after_items : (dead : Bool) (index : Option ℕ) (item : Option Item) → IsIndex key items index
+      → in_front item (without_index (index_removed index (dead || is_some item)) items) ≡ in_front item (swept_items (dead || is_some item) key items)
+  after_items dead index item at = leaves (dead || is_some item)
     where
-      leaves : (gone : Bool) → in_front item (removed (leaving place gone) items) ≡ in_front item (swept_items gone key items)
-      leaves true = ap (in_front item) (removed_is_without key items place at)
+      leaves : (gone : Bool) → in_front item (without_index (index_removed index gone) items) ≡ in_front item (swept_items gone key items)
+      leaves true = ap (in_front item) (removed_is_without key items index at)
       leaves false = refl
 
   -- a live item is one of the list
-  pub live_kept : (dead : Bool) (place : Option ℕ) (live : Option Item) → IsPlace key items place → live ≡ (if dead then None else option_and_then (slice_get items) place)
+  pub live_kept : (dead : Bool) (index : Option ℕ) (live : Option Item) → IsIndex key items index → live ≡ (if dead then None else option_and_then (slice_get items) index)
       → (i : Item) → live ≡ Some i → IsKept item_max last i
-  live_kept true place live at is i here = absurd (cc (is, here))
-  live_kept false place live at is i here = all_found (IsKept item_max last) key items i kept (sym (found_at key items place at) ∙ sym is ∙ here)
+  live_kept true index live at is i here = absurd (cc (is, here))
+  live_kept false index live at is i here = all_found (IsKept item_max last) key items i kept (sym (found_at key items index at) ∙ sym is ∙ here)

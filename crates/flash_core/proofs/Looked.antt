@@ -16,9 +16,9 @@ use Rattle.flash_machine.specs.Looking.{residence_of, look_next}
 use Rattle.flash_core.specs.declared.item.Item.{Item}
 use Rattle.flash_core.specs.declared.found.Found.{Found}
 use Rattle.flash_core.specs.Items.{find_item, without, replaced, item_of, items_of, cache_of_items, HaveOwnKeys, HaveOwnNumbers, HasDeadline, IsKept, AreKept}
-use Rattle.flash_core.specs.Places.{IsPlace, IsPlaceOf, marked, marked_in, marked_at}
+use Rattle.flash_core.specs.Indexes.{IsIndex, IsIndexOf, item_after_look, with_changed, items_after_look}
 use Rattle.flash_core.specs.Store.{Call}
-use Rattle.flash_core.specs.Calls.{drop_of, found_of, look_after, look_call}
+use Rattle.flash_core.specs.Calls.{drop_of, found_of, look_after_sweep, look_call}
 use Rattle.flash_core.specs.Choice.{cache_without_items, cached_item}
 use Rattle.flash_core.specs.Sound.{IsSound, IsNewTold, IsToldRun}
 use Rattle.flash_core.proofs.Pairs.{items_of-replaced}
@@ -30,7 +30,7 @@ use Rattle.flash_core.proofs.Told.{told_goes_on}
 
 module _ (items : List Item) (moment last : ℕ) (key : List ℕ) (item_max : ℕ) (own : HaveOwnKeys items) (kept : AreKept item_max last items) (look : Look) where
   abbrev change : Item → Item
-  change = marked look.renew moment
+  change = item_after_look look.renew moment
 
   -- the items after a lookup, by the item that was found
   abbrev items_marked : Option Item → List Item
@@ -40,15 +40,15 @@ module _ (items : List Item) (moment last : ℕ) (key : List ℕ) (item_max : �
   abbrev looked_items : Bool → Option Item → List Item
   looked_items dead found = if dead then without key items else items_marked found
 
-  set_there : (at : ℕ) (found : Option Item) → IsPlaceOf key items at → slice_get items at ≡ found → marked_in change items at found ≡ items_marked found
-  set_there at None place is = refl
-  set_there at (Some i) place is = sym (place.set (change i))
+  set_there : (at : ℕ) (found : Option Item) → IsIndexOf key items at → slice_get items at ≡ found → with_changed change items at found ≡ items_marked found
+  set_there at None index is = refl
+  set_there at (Some i) index is = sym (index.set (change i))
 
-  marked_is : (place : Option ℕ) (dead : Bool) → IsPlace key items place → marked_at look.renew moment place dead items ≡ looked_items dead (find_item key items)
+  marked_is : (index : Option ℕ) (dead : Bool) → IsIndex key items index → items_after_look look.renew moment index dead items ≡ looked_items dead (find_item key items)
   marked_is None true none = removed_is_without key items None none
   marked_is None false none = ap items_marked (sym none)
-  marked_is (Some at) true place = removed_is_without key items (Some at) place
-  marked_is (Some at) false place = set_there at (slice_get items at) place refl ∙ ap items_marked (sym place.found)
+  marked_is (Some at) true index = removed_is_without key items (Some at) index
+  marked_is (Some at) false index = set_there at (slice_get items at) index refl ∙ ap items_marked (sym index.found)
 
   -- what a lookup leaves of the list of items
   record Left (dead : Bool) (found : Option Item) : Type 0 where
@@ -96,37 +96,37 @@ module _ (g : Geometry) (items : List Item) (moment last : ℕ) (told : Option (
     desk : desk_of items2 ≡ after.desk
     entries : drop_of key dead ++ entries.Looked id key look (residence_of live) ∷ [] ≡ after.entries
 
-  live_found : (dead : Bool) (place : Option ℕ) (live : Option Item) → IsPlace key items place → live ≡ (if dead then None else option_and_then (slice_get items) place) → cached_item live ≡ (if dead then None else option_map item_of (find_item key items))
-  live_found true place live at is = ap cached_item is
-  live_found false place live at is = ap cached_item (is ∙ found_at key items place at)
+  live_found : (dead : Bool) (index : Option ℕ) (live : Option Item) → IsIndex key items index → live ≡ (if dead then None else option_and_then (slice_get items) index) → cached_item live ≡ (if dead then None else option_map item_of (find_item key items))
+  live_found true index live at is = ap cached_item is
+  live_found false index live at is = ap cached_item (is ∙ found_at key items index at)
 
-  pub is_looked : (place : Option ℕ) (dead : Bool) (live : Option Item) (found : Found) (items2 : List Item) (told2 : Option (List Entry))
+  pub is_looked : (index : Option ℕ) (dead : Bool) (live : Option Item) (found : Found) (items2 : List Item) (told2 : Option (List Entry))
       → IsNewTold told id
-      → IsPlace key items place
-      → dead ≡ option_map_or (λ item. is_reached item.deadline moment) (option_and_then (slice_get items) place) false
-      → live ≡ (if dead then None else option_and_then (slice_get items) place)
+      → IsIndex key items index
+      → dead ≡ option_map_or (λ item. is_reached item.deadline moment) (option_and_then (slice_get items) index) false
+      → live ≡ (if dead then None else option_and_then (slice_get items) index)
       → found ≡ found_of (cache_without_items moment 0) look (cached_item live)
-      → items2 ≡ marked_at look.renew moment place dead items
-      → (dead ≡ false → (i : Item) → option_and_then (slice_get items) place ≡ Some i → HasDeadline (marked look.renew moment i))
+      → items2 ≡ items_after_look look.renew moment index dead items
+      → (dead ≡ false → (i : Item) → option_and_then (slice_get items) index ≡ Some i → HasDeadline (item_after_look look.renew moment i))
       → told2 ≡ with_more (drop_of key dead ++ entries.Looked id key look (residence_of (cached_item live)) ∷ []) told
       → IsLooked found items2 told2
-  is_looked place dead live found items2 told2 new at dead_at live_at answer marked_to below noted =
+  is_looked index dead live found items2 told2 new at dead_at live_at answer marked_to below noted =
       let own = was.own_keys in
       let kept = was.kept in
       let found_here = find_item key items in
-      let swept = swept_call items moment last key g.item_max own kept dead in
-      let items_are : items2 ≡ looked_items items moment last key g.item_max own kept look dead found_here = marked_to ∙ marked_is items moment last key g.item_max own kept look place dead at in
-      let parts = left items moment last key g.item_max own kept look dead found_here refl (λ alive i here. below alive i (found_at key items place at ∙ here)) in
-      let live_eq = live_is items moment last key g.item_max own kept dead place live at live_at in
-      let there : finite.get (items_of (swept_items dead key items)) key ≡ (if dead then None else option_map item_of found_here) = sym live_eq ∙ live_found dead place live at live_at in
-      let looks : LooksAs dead (cached_item live) found items2 (look_after swept id key look) = record {
-        answer = answer ∙ ap (λ (l : Option machine.Item). found_of swept.cache look l) live_eq;
-        cache = ap (λ (l : List Item). cache_of_items l moment last) items_are ∙ parts.cache ∙ ap (λ (l : Option machine.Item). look_next swept.cache key look l) (sym there);
+      let sweep_step = swept_call items moment last key g.item_max own kept dead in
+      let items_are : items2 ≡ looked_items items moment last key g.item_max own kept look dead found_here = marked_to ∙ marked_is items moment last key g.item_max own kept look index dead at in
+      let parts = left items moment last key g.item_max own kept look dead found_here refl (λ alive i here. below alive i (found_at key items index at ∙ here)) in
+      let live_eq = live_is items moment last key g.item_max own kept dead index live at live_at in
+      let there : finite.get (items_of (swept_items dead key items)) key ≡ (if dead then None else option_map item_of found_here) = sym live_eq ∙ live_found dead index live at live_at in
+      let looks : LooksAs dead (cached_item live) found items2 (look_after_sweep sweep_step id key look) = record {
+        answer = answer ∙ ap (λ (l : Option machine.Item). found_of sweep_step.cache look l) live_eq;
+        cache = ap (λ (l : List Item). cache_of_items l moment last) items_are ∙ parts.cache ∙ ap (λ (l : Option machine.Item). look_next sweep_step.cache key look l) (sym there);
         desk = ap desk_of items_are ∙ parts.desk;
         entries = ap (λ (l : Option machine.Item). drop_of key dead ++ entries.Looked id key look (residence_of l) ∷ []) live_eq;
       } in
-      let is_expired_item = dead_is items moment last key g.item_max own kept dead place at dead_at in
-      let all = subst (λ (s : Call Bool). LooksAs dead (cached_item live) found items2 (look_after s id key look)) (sym (swept_call_is items moment last key g.item_max own kept dead is_expired_item)) looks in
+      let is_expired_item = dead_is items moment last key g.item_max own kept dead index at dead_at in
+      let all = subst (λ (s : Call Bool). LooksAs dead (cached_item live) found items2 (look_after_sweep s id key look)) (sym (swept_call_is items moment last key g.item_max own kept dead is_expired_item)) looks in
       let noted_is : told2 ≡ with_more call.entries told = noted ∙ ap (λ (l : List Entry). with_more l told) all.entries in
       let run = told_goes_on g before call.cache told call.entries was.run (λ h tells. look_goes g h before (desk_of items) id key look (all_here items moment last key g.item_max own kept) (new h tells)) in
       record {

@@ -34,8 +34,8 @@ same_items m n same = finite.same_map nat_list_cmp_total (slice_cmp-IsAntisymmet
 pub get-inserted : (m : Items) (k : List ℕ) (v : machine.Item) (q : List ℕ) → finite.get (finite.insert m k v) q ≡ cond (bytes_eq q k) (Some v) (finite.get m q)
 get-inserted m k v q = finite.get-insert nat_list_cmp_total m k v q ∙ ap (λ b. cond b (Some v) (finite.get m q)) (tied q k)
 
-pub get-removed : (m : Items) (k q : List ℕ) → finite.get (finite.remove m k) q ≡ cond (bytes_eq q k) None (finite.get m q)
-get-removed m k q = finite.get-remove nat_list_cmp_total m k q ∙ ap (λ b. cond b None (finite.get m q)) (tied q k)
+pub get-without_index : (m : Items) (k q : List ℕ) → finite.get (finite.remove m k) q ≡ cond (bytes_eq q k) None (finite.get m q)
+get-without_index m k q = finite.get-remove nat_list_cmp_total m k q ∙ ap (λ b. cond b None (finite.get m q)) (tied q k)
 
 -- three tests of two keys and an item's, of which two follow from the third
 same_tests : (q k j : List ℕ) → bytes_eq k j ≡ true → bytes_eq q j ≡ bytes_eq q k
@@ -94,7 +94,7 @@ mapped false new old = refl
 pub items_of-without : (k : List ℕ) (is : List Item) → HaveOwnKeys is → items_of (without k is) ≡ finite.remove (items_of is) k
 items_of-without k is own = same_items (items_of (without k is)) (finite.remove (items_of is) k) (λ q.
     get-items (without k is) q ∙ ap (option_map item_of) (find-without k is own q) ∙ mapped (bytes_eq q k) None (find_item q is)
-    ∙ ap (cond (bytes_eq q k) None) (sym (get-items is q)) ∙ sym (get-removed (items_of is) k q))
+    ∙ ap (cond (bytes_eq q k) None) (sym (get-items is q)) ∙ sym (get-without_index (items_of is) k q))
 
 -- the map with another item in the place of the key's
 pub items_of-replaced : (k : List ℕ) (new : Item) (is : List Item) (old : Item) → new.key ≡ k → find_item k is ≡ Some old → items_of (replaced k new is) ≡ finite.insert (items_of is) k (item_of new)

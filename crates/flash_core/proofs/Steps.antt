@@ -28,18 +28,18 @@ goes_behind g h c mid after es e goes meets makes = record {
 pub store_goes : (g : Geometry) (h : List Entry) (c : Cache) (desk : Desk) (id : Id) (put : Put) → IsHere c put.key → IsNew h id → Goes g h c (store_call g c desk id put).entries (store_call g c desk id put).cache
 store_goes g h c desk id put here new =
     let s = sweep c desk put.key in
-    let swept = sweeps g h c desk put.key here in
-    let live = swept.live (h ++ s.entries) in
-    goes_behind g h c s.cache _ s.entries _ swept.goes
-    (swept.new id new, ap (λ (i : Option Item). (store_step g s.cache put i).0) (sym live))
+    let sweep_step = sweeps g h c desk put.key here in
+    let live = sweep_step.live (h ++ s.entries) in
+    goes_behind g h c s.cache _ s.entries _ sweep_step.goes
+    (sweep_step.new id new, ap (λ (i : Option Item). (store_step g s.cache put i).0) (sym live))
     (ap (λ (i : Option Item). (store_step g s.cache put i).1) live)
 
 -- a lookup
 pub look_goes : (g : Geometry) (h : List Entry) (c : Cache) (desk : Desk) (id : Id) (key : List _) (look : Look) → IsHere c key → IsNew h id → Goes g h c (look_call c desk id key look).entries (look_call c desk id key look).cache
 look_goes g h c desk id key look here new =
     let s = sweep c desk key in
-    let swept = sweeps g h c desk key here in
-    let live = swept.live (h ++ s.entries) in
-    goes_behind g h c s.cache _ s.entries _ swept.goes
-    (swept.new id new, ap residence_of (sym live))
+    let sweep_step = sweeps g h c desk key here in
+    let live = sweep_step.live (h ++ s.entries) in
+    goes_behind g h c s.cache _ s.entries _ sweep_step.goes
+    (sweep_step.new id new, ap residence_of (sym live))
     (ap (look_next s.cache key look) live)

@@ -14,9 +14,9 @@ use Rattle.flash_machine.specs.Cache.{Cache}
 use Rattle.flash_core.specs.declared.item.Item.{Item}
 use Rattle.flash_core.specs.declared.choice.Choice.{Choice}
 use Rattle.flash_core.specs.Items.{cache_of_items, HaveOwnKeys, HaveOwnNumbers, AreKept}
-use Rattle.flash_core.specs.Places.{IsPlace, removed, in_front}
+use Rattle.flash_core.specs.Indexes.{IsIndex, without_index, in_front}
 use Rattle.flash_core.specs.Calls.{drop_of, store_call}
-use Rattle.flash_core.specs.Choice.{choice_of, chosen_by, cached_item, leaving}
+use Rattle.flash_core.specs.Choice.{choice_of, parts_of_choice, cached_item, index_removed}
 use Rattle.flash_core.specs.Sound.{IsSound, IsNewTold, IsToldRun}
 use Rattle.flash_core.proofs.Lists.{desk_of, all_here, after_items}
 use Rattle.flash_core.proofs.Stored.{stored_items, own_after, numbers_after, kept_after, stores_as}
@@ -35,23 +35,23 @@ module _ (g : Geometry) (items : List Item) (moment last : ℕ) (told : Option (
     pub noted : told2 ≡ with_more (store_call g before (desk_of items) id put).entries told
     pub sound : IsSound g items2 moment choice.last_cas told2
 
-  pub is_stored : (place : Option ℕ) (dead : Bool) (live : Option Item) (choice : Choice) (items2 : List Item) (told2 : Option (List Entry))
+  pub is_stored : (index : Option ℕ) (dead : Bool) (live : Option Item) (choice : Choice) (items2 : List Item) (told2 : Option (List Entry))
       → IsNewTold told id
-      → IsPlace put.key items place
-      → dead ≡ option_map_or (λ item. is_reached item.deadline moment) (option_and_then (slice_get items) place) false
-      → live ≡ (if dead then None else option_and_then (slice_get items) place)
-      → chosen_by choice ≡ choice_of g moment last put (cached_item live)
+      → IsIndex put.key items index
+      → dead ≡ option_map_or (λ item. is_reached item.deadline moment) (option_and_then (slice_get items) index) false
+      → live ≡ (if dead then None else option_and_then (slice_get items) index)
+      → parts_of_choice choice ≡ choice_of g moment last put (cached_item live)
       → last ≤ choice.last_cas
       → ((i : Item) → choice.item ≡ Some i → last < i.cas)
       → AreKept g.item_max choice.last_cas (option_to_list choice.item)
-      → items2 ≡ in_front choice.item (removed (leaving place (dead || is_some choice.item)) items)
+      → items2 ≡ in_front choice.item (without_index (index_removed index (dead || is_some choice.item)) items)
       → told2 ≡ with_more (drop_of put.key dead ++ entries.Did id (deeds.Store put choice.answer) ∷ []) told
       → IsStored choice items2 told2
-  is_stored place dead live choice items2 told2 new at dead_at live_at chose rises above numbered put_at noted =
+  is_stored index dead live choice items2 told2 new at dead_at live_at chose rises above numbered put_at noted =
       let own = was.own_keys in
-      let stores = stores_as g items moment last put g.item_max own was.kept id dead place live choice.answer choice.item choice.last_cas at dead_at live_at chose in
+      let stores = stores_as g items moment last put g.item_max own was.kept id dead index live choice.answer choice.item choice.last_cas at dead_at live_at chose in
       let call = store_call g before (desk_of items) id put in
-      let items_are : items2 ≡ stored_items dead choice.item put.key items = put_at ∙ after_items items moment last put.key g.item_max own was.kept dead place choice.item at in
+      let items_are : items2 ≡ stored_items dead choice.item put.key items = put_at ∙ after_items items moment last put.key g.item_max own was.kept dead index choice.item at in
       let cache_is : cache_of_items items2 moment choice.last_cas ≡ call.cache = ap (λ (l : List Item). cache_of_items l moment choice.last_cas) items_are ∙ stores.cache_is in
       let noted_is : told2 ≡ with_more call.entries told = noted ∙ ap (λ (l : List Entry). with_more l told) stores.entries_are in
       let run = told_goes_on g before call.cache told call.entries was.run (λ h tells. store_goes g h before (desk_of items) id put (all_here items moment last put.key g.item_max own was.kept) (new h tells)) in

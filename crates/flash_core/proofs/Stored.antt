@@ -15,17 +15,17 @@ use Rattle.flash_machine.specs.Cache.{Cache}
 use Rattle.flash_machine.specs.Storing.{refusal, stored_item, store_outcome, store_step}
 use Rattle.flash_core.specs.declared.item.Item.{Item}
 use Rattle.flash_core.specs.Items.{without, item_of, pair_of, items_of, keys_of, cache_of_items, HaveOwnKeys, HaveOwnNumbers, IsKept, AreKept}
-use Rattle.flash_core.specs.Places.{IsPlace, in_front}
+use Rattle.flash_core.specs.Indexes.{IsIndex, in_front}
 use Rattle.flash_core.specs.Store.{Call}
-use Rattle.flash_core.specs.Calls.{keys_without, drop_of, store_after, store_call, stored_desk}
-use Rattle.flash_core.specs.Choice.{Chosen, chosen, choice_of, cache_without_items, cached_item}
+use Rattle.flash_core.specs.Calls.{keys_without, drop_of, store_after_sweep, store_call, desk_after_store}
+use Rattle.flash_core.specs.Choice.{ChoiceParts, choice_from, choice_of, cache_without_items, cached_item}
 use Rattle.flash_core.proofs.Pairs.{items_of-in_front}
 use Rattle.flash_core.proofs.Kept.{own-without, own-in_front, none-without, all-without, kept-more, keys_of-without, without-absent}
 use Rattle.flash_core.proofs.Numbers.{numbers-without, numbers-in_front}
 use Rattle.flash_core.proofs.Lists.{swept_items, desk_of, dead_is, swept_call, swept_call_is, live_is}
 
 abbrev Chose : Option Stored → ℕ → List ℕ → machine.Item → Stored → Option Item → ℕ → Type 0
-Chose r last key new answer item last2 = ◌≡◌ {A = Chosen} (answer, (option_map pair_of item, last2)) (chosen r last (key, new))
+Chose r last key new answer item last2 = ◌≡◌ {A = ChoiceParts} (answer, (option_map pair_of item, last2)) (choice_from r last (key, new))
 
 -- the items after a store
 abbrev pub stored_items : Bool → Option Item → List ℕ → List Item → List Item
@@ -76,7 +76,7 @@ module _ (items : List Item) (moment last : ℕ) (key : List ℕ) (item_max : �
   pub record Leaves (r : Option Stored) (new : machine.Item) (dead : Bool) (answer : Stored) (item : Option Item) (last2 : ℕ) : Type 0 where
     pub answer_is : answer ≡ (store_outcome r (swept_to dead) key new).0
     pub cache_is : cache_of_items (stored_items dead item key items) moment last2 ≡ (store_outcome r (swept_to dead) key new).1
-    pub desk_is : desk_of (stored_items dead item key items) ≡ stored_desk r (desk_of (swept_items dead key items)) key
+    pub desk_is : desk_of (stored_items dead item key items) ≡ desk_after_store r (desk_of (swept_items dead key items)) key
     pub named : (i : Item) → item ≡ Some i → i.key ≡ key
 
   front_items : (dead : Bool) (i : Item) → stored_items dead (Some i) key items ≡ i ∷ without key items
@@ -85,11 +85,11 @@ module _ (items : List Item) (moment last : ℕ) (key : List ℕ) (item_max : �
 
   leaves_item : (new : machine.Item) (dead : Bool) (answer : Stored) (i : Item) (last2 : ℕ) → Chose None last key new answer (Some i) last2 → Leaves None new dead answer (Some i) last2
   leaves_item new dead answer i last2 is =
-      let named : i.key ≡ key = ap (λ (t : Chosen). (unwrap_or t.1.0 (key, new)).0) is in
-      let same : item_of i ≡ new = ap (λ (t : Chosen). (unwrap_or t.1.0 (key, new)).1) is in
-      let number : last2 ≡ last + 1 = ap (λ (t : Chosen). t.1.1) is in
+      let named : i.key ≡ key = ap (λ (t : ChoiceParts). (unwrap_or t.1.0 (key, new)).0) is in
+      let same : item_of i ≡ new = ap (λ (t : ChoiceParts). (unwrap_or t.1.0 (key, new)).1) is in
+      let number : last2 ≡ last + 1 = ap (λ (t : ChoiceParts). t.1.1) is in
       record {
-        answer_is = ap (λ (t : Chosen). t.0) is;
+        answer_is = ap (λ (t : ChoiceParts). t.0) is;
         cache_is =
             ap (λ (l : List Item). cache_of_items l moment last2) (front_items dead i)
             ∙ (λ j. record { items = inserted dead i named j; now = moment; last_cas = number j; flush_mark = 0; pending_flush = None })
@@ -101,17 +101,17 @@ module _ (items : List Item) (moment last : ℕ) (key : List ℕ) (item_max : �
   leaves_refused : (s : Stored) (new : machine.Item) (dead : Bool) (answer : Stored) (last2 : ℕ) → Chose (Some s) last key new answer None last2 → Leaves (Some s) new dead answer None last2
   leaves_refused s new dead answer last2 is =
       record {
-        answer_is = ap (λ (t : Chosen). t.0) is;
-        cache_is = λ j. cache_of_items (keep_refused dead j) moment (ap (λ (t : Chosen). t.1.1) is j);
+        answer_is = ap (λ (t : ChoiceParts). t.0) is;
+        cache_is = λ j. cache_of_items (keep_refused dead j) moment (ap (λ (t : ChoiceParts). t.1.1) is j);
         desk_is = ap desk_of (keep_refused dead);
         named = λ i there. absurd (cc there);
       }
 
   pub leaves : (r : Option Stored) (new : machine.Item) (dead : Bool) (answer : Stored) (item : Option Item) (last2 : ℕ) → Chose r last key new answer item last2 → Leaves r new dead answer item last2
   leaves None new dead answer (Some i) last2 is = leaves_item new dead answer i last2 is
-  leaves None new dead answer None last2 is = absurd (cc (ap (λ (t : Chosen). t.1.0) is))
+  leaves None new dead answer None last2 is = absurd (cc (ap (λ (t : ChoiceParts). t.1.0) is))
   leaves (Some s) new dead answer None last2 is = leaves_refused s new dead answer last2 is
-  leaves (Some s) new dead answer (Some i) last2 is = absurd (cc (ap (λ (t : Chosen). t.1.0) is))
+  leaves (Some s) new dead answer (Some i) last2 is = absurd (cc (ap (λ (t : ChoiceParts). t.1.0) is))
 
 module _ (g : Geometry) (items : List Item) (moment last : ℕ) (put : Put) (item_max : ℕ) (own : HaveOwnKeys items) (kept : AreKept item_max last items) where
   abbrev key : List ℕ
@@ -129,28 +129,28 @@ module _ (g : Geometry) (items : List Item) (moment last : ℕ) (put : Put) (ite
   after_live : (id : Id) (dead : Bool) (live : Option machine.Item) (answer : Stored) (item : Option Item) (last2 : ℕ)
       → live ≡ finite.get (items_of (swept_items dead key items)) key
       → Chose (refusal g (cache_without_items moment last) put live) last key (stored_item (cache_without_items moment last) put put.mode live) answer item last2
-      → StoresAs id dead answer item last2 (store_after g (swept_call items moment last key item_max own kept dead) id put)
+      → StoresAs id dead answer item last2 (store_after_sweep g (swept_call items moment last key item_max own kept dead) id put)
   after_live id dead live answer item last2 at chose =
       let r = refusal g (cache_without_items moment last) put live in
       let new = stored_item (cache_without_items moment last) put put.mode live in
       let left = leaves items moment last key item_max own kept r new dead answer item last2 chose in
       let step = λ (l : Option machine.Item). store_step g (swept_call items moment last key item_max own kept dead).cache put l in
-      let answer_is : answer ≡ (store_after g (swept_call items moment last key item_max own kept dead) id put).answer = left.answer_is ∙ ap (λ (l : Option machine.Item). (step l).0) at in
+      let answer_is : answer ≡ (store_after_sweep g (swept_call items moment last key item_max own kept dead) id put).answer = left.answer_is ∙ ap (λ (l : Option machine.Item). (step l).0) at in
       record {
         answer_is = answer_is;
         cache_is = left.cache_is ∙ ap (λ (l : Option machine.Item). (step l).1) at;
-        desk_is = left.desk_is ∙ ap (λ (l : Option machine.Item). stored_desk (refusal g (swept_call items moment last key item_max own kept dead).cache put l) (swept_call items moment last key item_max own kept dead).desk key) at;
+        desk_is = left.desk_is ∙ ap (λ (l : Option machine.Item). desk_after_store (refusal g (swept_call items moment last key item_max own kept dead).cache put l) (swept_call items moment last key item_max own kept dead).desk key) at;
         entries_are = ap (λ (a : Stored). drop_of key dead ++ entries.Did id (deeds.Store put a) ∷ []) answer_is;
         named = left.named;
       }
 
-  pub stores_as : (id : Id) (dead : Bool) (place : Option ℕ) (live : Option Item) (answer : Stored) (item : Option Item) (last2 : ℕ)
-      → IsPlace key items place
-      → dead ≡ option_map_or (λ item. is_reached item.deadline moment) (option_and_then (slice_get items) place) false
-      → live ≡ (if dead then None else option_and_then (slice_get items) place)
-      → ◌≡◌ {A = Chosen} (answer, (option_map pair_of item, last2)) (choice_of g moment last put (cached_item live))
+  pub stores_as : (id : Id) (dead : Bool) (index : Option ℕ) (live : Option Item) (answer : Stored) (item : Option Item) (last2 : ℕ)
+      → IsIndex key items index
+      → dead ≡ option_map_or (λ item. is_reached item.deadline moment) (option_and_then (slice_get items) index) false
+      → live ≡ (if dead then None else option_and_then (slice_get items) index)
+      → ◌≡◌ {A = ChoiceParts} (answer, (option_map pair_of item, last2)) (choice_of g moment last put (cached_item live))
       → StoresAs id dead answer item last2 (store_call g (cache_of_items items moment last) (desk_of items) id put)
-  stores_as id dead place live answer item last2 at dead_at live_at chose =
-      let is_expired_item = dead_is items moment last key item_max own kept dead place at dead_at in
-      subst (λ (s : Call Bool). StoresAs id dead answer item last2 (store_after g s id put)) (sym (swept_call_is items moment last key item_max own kept dead is_expired_item))
-      (after_live id dead (cached_item live) answer item last2 (live_is items moment last key item_max own kept dead place live at live_at) chose)
+  stores_as id dead index live answer item last2 at dead_at live_at chose =
+      let is_expired_item = dead_is items moment last key item_max own kept dead index at dead_at in
+      subst (λ (s : Call Bool). StoresAs id dead answer item last2 (store_after_sweep g s id put)) (sym (swept_call_is items moment last key item_max own kept dead is_expired_item))
+      (after_live id dead (cached_item live) answer item last2 (live_is items moment last key item_max own kept dead index live at live_at) chose)

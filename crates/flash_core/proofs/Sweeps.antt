@@ -12,18 +12,18 @@ use Rattle.flash_machine.specs.Cache.{Cache}
 use Rattle.flash_machine.specs.Live.{is_expired_item, is_live, label_has_ended, passing_item, live_item}
 use Rattle.flash_machine.specs.Legal.{IsNew}
 use Rattle.flash_core.specs.Store.{Desk, Call}
-use Rattle.flash_core.specs.Calls.{is_dead_at, swept, sweep}
+use Rattle.flash_core.specs.Calls.{is_expired_at, sweep_step, sweep}
 pub use Rattle.flash_core.specs.Laws.{IsHere}
 use Rattle.flash_core.proofs.Keys.{bytes_eq-refl}
-use Rattle.flash_core.proofs.Pairs.{get-removed}
+use Rattle.flash_core.proofs.Pairs.{get-without_index}
 use Rattle.flash_core.proofs.Told.{Goes}
 use Rattle.flash_core.proofs.News.{new_behind}
 
 gone : (c : Cache) (key : List ℕ) → finite.get (finite.remove c.items key) key ≡ None
-gone c key = get-removed c.items key key ∙ ap (λ b. cond b None (finite.get c.items key)) (bytes_eq-refl key)
+gone c key = get-without_index c.items key key ∙ ap (λ b. cond b None (finite.get c.items key)) (bytes_eq-refl key)
 
 module _ (c : Cache) (desk : Desk) (key : List ℕ) where
-  goes_by : (g : Geometry) (h : List Entry) (found : Option Item) (dead : Bool) → finite.get c.items key ≡ found → is_dead_at c found ≡ dead → Goes g h c (swept c desk key dead).entries (swept c desk key dead).cache
+  goes_by : (g : Geometry) (h : List Entry) (found : Option Item) (dead : Bool) → finite.get c.items key ≡ found → is_expired_at c found ≡ dead → Goes g h c (sweep_step c desk key dead).entries (sweep_step c desk key dead).cache
   goes_by g h found false here is = record { legal = tt; makes = refl }
   goes_by g h None true here is = absurd (cc is)
   goes_by g h (Some item) true here is = record { legal = ((item, here, is), tt); makes = refl }
@@ -36,14 +36,14 @@ module _ (c : Cache) (desk : Desk) (key : List ℕ) where
       let lives : is_live j c item ≡ true = ap (λ b. not b && not (label_has_ended j item.label)) not_dead ∙ ap (λ b. not false && not b) no_end in
       ap (λ b. if b then Some item else None) lives
 
-  live_by : (j : List Entry) (found : Option Item) (dead : Bool) → finite.get c.items key ≡ found → is_dead_at c found ≡ dead → IsHere c key
-      → live_item j (swept c desk key dead).cache key ≡ finite.get (swept c desk key dead).cache.items key
-  live_by j found true here is plain = ap (passing_item (is_live j (swept c desk key true).cache)) (gone c key) ∙ sym (gone c key)
+  live_by : (j : List Entry) (found : Option Item) (dead : Bool) → finite.get c.items key ≡ found → is_expired_at c found ≡ dead → IsHere c key
+      → live_item j (sweep_step c desk key dead).cache key ≡ finite.get (sweep_step c desk key dead).cache.items key
+  live_by j found true here is plain = ap (passing_item (is_live j (sweep_step c desk key true).cache)) (gone c key) ∙ sym (gone c key)
   live_by j None false here is plain = ap (passing_item (is_live j c)) here ∙ sym here
   live_by j (Some item) false here is plain =
       ap (passing_item (is_live j c)) here ∙ live_step j item false None is refl (plain item here) refl ∙ sym here
 
-  new_by : (h : List Entry) (id : Id) (dead : Bool) → IsNew h id → IsNew (h ++ (swept c desk key dead).entries) id
+  new_by : (h : List Entry) (id : Id) (dead : Bool) → IsNew h id → IsNew (h ++ (sweep_step c desk key dead).entries) id
   new_by h id true new = new_behind h id (entries.Dropped key drops.Dead ∷ []) new (tt, tt)
   new_by h id false new = subst (λ (j : List Entry). IsNew j id) (sym (append-nil h)) new
 
@@ -55,7 +55,7 @@ pub record Sweeps (g : Geometry) (h : List Entry) (c : Cache) (key : List ℕ) (
 
 pub sweeps : (g : Geometry) (h : List Entry) (c : Cache) (desk : Desk) (key : List ℕ) → IsHere c key → Sweeps g h c key (sweep c desk key)
 sweeps g h c desk key plain =
-    let dead = is_dead_at c (finite.get c.items key) in
+    let dead = is_expired_at c (finite.get c.items key) in
     record {
       goes = goes_by c desk key g h (finite.get c.items key) dead refl refl;
       live = λ j. live_by c desk key j (finite.get c.items key) dead refl refl plain;

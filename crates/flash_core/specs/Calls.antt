@@ -27,17 +27,17 @@ keys_without key [] = []
 keys_without key (k ∷ ks) = if bytes_eq key k then ks else k ∷ keys_without key ks
 
 -- whether the item under the key is dead, if there is one
-abbrev pub is_dead_at : Cache → Option Item → Bool
-is_dead_at c None = false
-is_dead_at c (Some item) = is_expired_item c item
+abbrev pub is_expired_at : Cache → Option Item → Bool
+is_expired_at c None = false
+is_expired_at c (Some item) = is_expired_item c item
 
 -- the entry of a key's item that is dropped because it is dead, if it is
 abbrev pub drop_of : List ℕ → Bool → List Entry
 drop_of key dead = if dead then entries.Dropped key drops.Dead ∷ [] else []
 
 -- a key's item is dropped because it is dead, or it isn't
-abbrev pub swept : Cache → Desk → List ℕ → Bool → Call Bool
-swept c desk key dead =
+abbrev pub sweep_step : Cache → Desk → List ℕ → Bool → Call Bool
+sweep_step c desk key dead =
     if dead then (record {
       entries = drop_of key true;
       cache = record c { items = finite.remove c.items key };
@@ -47,27 +47,27 @@ swept c desk key dead =
 
 -- a dead item under the key is dropped before a call that names the key does anything else
 abbrev pub sweep : Cache → Desk → List ℕ → Call Bool
-sweep c desk key = swept c desk key (is_dead_at c (finite.get c.items key))
+sweep c desk key = sweep_step c desk key (is_expired_at c (finite.get c.items key))
 
 -- the order after a store: a refusal leaves it, a stored item's key is in front
-abbrev pub stored_desk : Option Stored → Desk → List ℕ → Desk
-stored_desk None desk key = record { hot = key ∷ keys_without key desk.hot }
-stored_desk (Some refusal) desk key = desk
+abbrev pub desk_after_store : Option Stored → Desk → List ℕ → Desk
+desk_after_store None desk key = record { hot = key ∷ keys_without key desk.hot }
+desk_after_store (Some refusal) desk key = desk
 
 -- a store after the sweep
-abbrev pub store_after : Geometry → Call Bool → Id → Put → Call Stored
-store_after g swept id put =
-    let live = finite.get swept.cache.items put.key in
-    let step = store_step g swept.cache put live in record {
-      entries = swept.entries ++ entries.Did id (deeds.Store put step.0) ∷ [];
+abbrev pub store_after_sweep : Geometry → Call Bool → Id → Put → Call Stored
+store_after_sweep g sweep_step id put =
+    let live = finite.get sweep_step.cache.items put.key in
+    let step = store_step g sweep_step.cache put live in record {
+      entries = sweep_step.entries ++ entries.Did id (deeds.Store put step.0) ∷ [];
       cache = step.1;
-      desk = stored_desk (refusal g swept.cache put live) swept.desk put.key;
+      desk = desk_after_store (refusal g sweep_step.cache put live) sweep_step.desk put.key;
       answer = step.0;
     }
 
 -- what a store does: it sweeps its key, and then does a store
 abbrev pub store_call : Geometry → Cache → Desk → Id → Put → Call Stored
-store_call g c desk id put = store_after g (sweep c desk put.key) id put
+store_call g c desk id put = store_after_sweep g (sweep c desk put.key) id put
 
 -- what is told of a lookup, by the live item under the key
 abbrev pub found_of : Cache → Look → Option Item → Found
@@ -76,18 +76,18 @@ found_of c look (Some item) =
     if look.value then found.Here (record { head = head_of_item c look item; value = item.value }) else found.Head (head_of_item c look item)
 
 -- a lookup after the sweep
-abbrev pub look_after : Call Bool → Id → List ℕ → Look → Call Found
-look_after swept id key look =
-    let live = finite.get swept.cache.items key in record {
-      entries = swept.entries ++ entries.Looked id key look (residence_of live) ∷ [];
-      cache = look_next swept.cache key look live;
-      desk = swept.desk;
-      answer = found_of swept.cache look live;
+abbrev pub look_after_sweep : Call Bool → Id → List ℕ → Look → Call Found
+look_after_sweep sweep_step id key look =
+    let live = finite.get sweep_step.cache.items key in record {
+      entries = sweep_step.entries ++ entries.Looked id key look (residence_of live) ∷ [];
+      cache = look_next sweep_step.cache key look live;
+      desk = sweep_step.desk;
+      answer = found_of sweep_step.cache look live;
     }
 
 -- what a lookup does: it sweeps its key, and then looks it up
 abbrev pub look_call : Cache → Desk → Id → List ℕ → Look → Call Found
-look_call c desk id key look = look_after (sweep c desk key) id key look
+look_call c desk id key look = look_after_sweep (sweep c desk key) id key look
 
 -- a reading of the clock, up to 2^62, that is above the moment
 abbrev pub clock_to : Cache → Desk → ℕ → Call Bool

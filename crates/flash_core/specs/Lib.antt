@@ -3,6 +3,6 @@ pub mod Choice
 pub mod Items
 pub mod Laws
 pub mod Open
-pub mod Places
+pub mod Indexes
 pub mod Sound
 pub mod Store

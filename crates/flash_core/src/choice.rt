@@ -4,7 +4,7 @@ ghost use Rattle.std.specs.Option.{ForSome, option_copied, option_to_list};
 ghost use Rattle.flash_machine.specs.Moments.{deadline};
 ghost use Rattle.flash_machine.specs.Storing.{mode_fails, compare_refusal, stored_value, stored_item, refusal};
 ghost use Rattle.flash_core.specs.Items.{AreKept, HasDeadline, item_of};
-ghost use Rattle.flash_core.specs.Choice.{choice_of, chosen_by, cache_without_items, cached_item};
+ghost use Rattle.flash_core.specs.Choice.{choice_of, parts_of_choice, cache_without_items, cached_item};
 
 use crate::item::Item;
 use flash_entry::{Mode, Put, Stored};
@@ -36,7 +36,7 @@ pub fn choose(
 ) -> Result<Choice, AllocError>
     requires moment { now ≤ 2 ^ 62 }
     requires deadline { ForSome (option_copied live) HasDeadline }
-    ensures chosen { IfOk result (λ choice. chosen_by choice ≡ choice_of geometry.now now last_cas put.now (cached_item (option_copied live.entry))) }
+    ensures chosen { IfOk result (λ choice. parts_of_choice choice ≡ choice_of geometry.now now last_cas put.now (cached_item (option_copied live.entry))) }
     ensures rises { IfOk result (λ choice. last_cas ≤ choice.last_cas) }
     ensures above { IfOk result (λ choice. ForSome choice.item (λ item. last_cas < item.cas)) }
     ensures kept { IfOk result (λ choice. AreKept geometry.now.item_max choice.last_cas (option_to_list choice.item)) }

@@ -4,14 +4,14 @@ ghost use Rattle.flash_machine.specs.Looking.{residence_of, left_to, deadline_af
 ghost use Rattle.flash_core.specs.Calls.{found_of, look_call};
 ghost use Rattle.flash_core.specs.Choice.{cache_without_items, cached_item};
 ghost use Rattle.flash_core.specs.Items.{HasDeadline, HasHead, item_of};
-ghost use Rattle.flash_core.specs.Places.{marked, marked_at};
+ghost use Rattle.flash_core.specs.Indexes.{item_after_look, items_after_look};
 ghost use Rattle.flash_core.specs.Sound.{IsNewTold};
 ghost use Rattle.flash_core.specs.Store.{Becomes, Stays};
 
 use crate::choice::deadline_of;
 use crate::found::Found;
 use crate::item::Item;
-use crate::items::{dead_at, live_at, place_of};
+use crate::items::{dead_at, index_of, live_at};
 use crate::noting::{dropped, note_behind};
 use crate::state::Core;
 use flash_entry::{Head, Hit, Journal, Look, Note, Residence};
@@ -37,13 +37,13 @@ impl<J: Journal> Core<J> {
         ensures ready { IsTrue self.old.ready → IsTrue self.new.ready }
         ensures sure { IsTrue self.old.ready → look.value ≡ false → IsOk result }
     {
-        let place = place_of(&self.items, key);
-        let dead = dead_at(&self.items, place, self.moment);
-        let live = live_at(&self.items, place, dead);
+        let index = index_of(&self.items, key);
+        let dead = dead_at(&self.items, index, self.moment);
+        let live = live_at(&self.items, index, dead);
         let found = found_at(alloc, self.moment, live, look)?;
         let looked = Note::Looked(id, key, look, residence_at(live));
         note_behind(&mut self.journal, dropped(key, dead), looked)?;
-        remove_or_mark(&mut self.items, place, dead, look.renew, self.moment);
+        remove_or_mark(&mut self.items, index, dead, look.renew, self.moment);
         Ok(found)
     }
 }
@@ -124,18 +124,18 @@ fn residence_at(live: Option<&Item>) -> Residence
 // Drops the item at the place where it is dead, and else marks it as found.
 fn remove_or_mark(
     items: &mut Vec<Item>,
-    place: Option<usize>,
+    index: Option<usize>,
     dead: bool,
     renew: Option<i64>,
     moment: u64,
 )
-    requires place { ForSome place (λ at. at < length items.old.items) }
+    requires index { ForSome index (λ at. at < length items.old.items) }
     requires moment { moment ≤ 2 ^ 62 }
-    requires deadline { ForSome (option_and_then (slice_get items.old.items) place) HasDeadline }
-    ensures items { items.new.items ≡ marked_at renew moment place dead items.old.items }
-    ensures deadline { dead ≡ false → ForSome (option_and_then (slice_get items.old.items) place) (λ item. HasDeadline (marked renew moment item)) }
+    requires deadline { ForSome (option_and_then (slice_get items.old.items) index) HasDeadline }
+    ensures items { items.new.items ≡ items_after_look renew moment index dead items.old.items }
+    ensures deadline { dead ≡ false → ForSome (option_and_then (slice_get items.old.items) index) (λ item. HasDeadline (item_after_look renew moment item)) }
 {
-    let Some(at) = place else {
+    let Some(at) = index else {
         return;
     };
     if dead {
@@ -149,7 +149,7 @@ fn remove_or_mark(
 fn mark(item: &mut Item, renew: Option<i64>, moment: u64)
     requires moment { moment ≤ 2 ^ 62 }
     requires deadline { HasDeadline item.old }
-    ensures marked { item.new ≡ marked renew moment item.old }
+    ensures marked { item.new ≡ item_after_look renew moment item.old }
     ensures deadline { HasDeadline item.new }
 {
     item.deadline = renewed_at(moment, item.deadline, renew);

@@ -4,7 +4,7 @@ ghost use Rattle.flash_core.specs.Calls.{store_call};
 ghost use Rattle.flash_core.specs.Sound.{IsNewTold};
 
 use crate::choice::choose;
-use crate::items::{dead_at, leaving_place, live_at, place_of, put_in_front};
+use crate::items::{dead_at, index_of, leaving_index, live_at, put_in_front};
 use crate::noting::{dropped, note_behind};
 use crate::state::Core;
 use flash_entry::{DoneNote, Journal, Note, Put, Stored};
@@ -23,14 +23,14 @@ impl<J: Journal> Core<J> {
         ensures err { OnErr result (Stays self.old self.new) }
         ensures ready { IsTrue self.old.ready → IsTrue self.new.ready }
     {
-        let place = place_of(&self.items, &put.key);
-        let dead = dead_at(&self.items, place, self.moment);
-        let live = live_at(&self.items, place, dead);
+        let index = index_of(&self.items, &put.key);
+        let dead = dead_at(&self.items, index, self.moment);
+        let live = live_at(&self.items, index, dead);
         let choice = choose(alloc, &self.geometry, self.moment, self.last_cas, put, live)?;
         self.items.reserve(1)?;
         let did = Note::Did(id, DoneNote::Store(put, choice.answer));
         note_behind(&mut self.journal, dropped(&put.key, dead), did)?;
-        let gone = leaving_place(place, dead, &choice.item);
+        let gone = leaving_index(index, dead, &choice.item);
         put_in_front(&mut self.items, gone, choice.item);
         self.last_cas = choice.last_cas;
         Ok(choice.answer)

@@ -4,6 +4,7 @@ pub mod Cut
 pub mod FaultPlan
 pub mod Faults
 pub mod Geometry
+pub mod KeyHash
 pub mod Labels
 pub mod Lending
 pub mod ListClock

@@ -126,6 +126,21 @@ fn bounds_a_key(rt: HostRuntime) {
     assert!(rt; Key::from_bytes(&[0]).is_some_and(|key| key.bytes() == [0].as_slice()));
 }
 
+// The published test vectors of FNV-1a with 64 bits, and the letter a as a key.
+#[test]
+fn hashes_a_key(rt: HostRuntime) {
+    let table: [(&[u8], u64); 3] = [
+        (b"", 0xcbf2_9ce4_8422_2325),
+        (b"a", 0xaf63_dc4c_8601_ec8c),
+        (b"foobar", 0x8594_4171_f739_67e8),
+    ];
+    for (bytes, hash) in table {
+        assert_eq!(rt; hash_of(bytes), hash);
+    }
+    let key = Key::from_bytes(b"a");
+    assert_eq!(rt; key.map(|key| key_hash(&key)), Some(0xaf63_dc4c_8601_ec8c));
+}
+
 #[test]
 fn cuts_a_blob(rt: HostRuntime) -> Result<(), Fail> {
     let mut blob = Blob::from_slice(rt.alloc(), b"hello")?;

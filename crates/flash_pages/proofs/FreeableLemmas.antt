@@ -5,7 +5,7 @@ use Rattle.std.proofs.lemmas.Bool.Decides.{nat_tests}
 use Rattle.flash_names.specs.declared.place.Label.{Label}
 use Rattle.flash_pages.specs.declared.page_row.PageRow.{PageRow}
 use Rattle.flash_pages.specs.States.{is_ended}
-use Rattle.flash_pages.specs.PageTable.{PageTable, blank, row_of}
+use Rattle.flash_pages.specs.PageTable.{PageTable, blank_row, row_of}
 use Rattle.flash_pages.specs.Freeable.{first_freeable, freeable, IsFirstToFree, NoneToFree}
 
 -- the page has ended and has no pin
@@ -19,15 +19,15 @@ may_of row ended unpinned = grind (arith, nat_tests)
 record IsFirst (n : ℕ) (rows : List PageRow) (label : Label) (i : ℕ) : Type 0 where
   inside : i < length rows
   page : label.page ≡ n + i
-  version : (get_or rows i blank).version ≡ label.version
-  may : may_free (get_or rows i blank) ≡ true
-  first : (j : ℕ) → j < length rows → may_free (get_or rows j blank) ≡ true → i ≤ j
+  version : (get_or rows i blank_row).version ≡ label.version
+  may : may_free (get_or rows i blank_row) ≡ true
+  first : (j : ℕ) → j < length rows → may_free (get_or rows j blank_row) ≡ true → i ≤ j
 
 FirstFrom : ℕ → List PageRow → Label → Type 0
 FirstFrom n rows label = (i : ℕ) × IsFirst n rows label i
 
 NoneFrom : List PageRow → Type 0
-NoneFrom rows = (j : ℕ) → j < length rows → may_free (get_or rows j blank) ≡ true → ⊥
+NoneFrom rows = (j : ℕ) → j < length rows → may_free (get_or rows j blank_row) ≡ true → ⊥
 
 none_first : (row : PageRow) (rest : List PageRow) → may_free row ≡ false → NoneFrom rest → NoneFrom (row ∷ rest)
 unfolding NoneFrom
@@ -42,7 +42,7 @@ later_first n row rest label i is later = record {
   may = later.may;
   first = before n row rest label i is later;
 } where
-  before : (n : ℕ) (row : PageRow) (rest : List PageRow) (label : Label) (i : ℕ) → may_free row ≡ false → IsFirst (n + 1) rest label i → (j : ℕ) → j < length (row ∷ rest) → may_free (get_or (row ∷ rest) j blank) ≡ true → suc i ≤ j
+  before : (n : ℕ) (row : PageRow) (rest : List PageRow) (label : Label) (i : ℕ) → may_free row ≡ false → IsFirst (n + 1) rest label i → (j : ℕ) → j < length (row ∷ rest) → may_free (get_or (row ∷ rest) j blank_row) ≡ true → suc i ≤ j
   before n row rest label i is later zero inside may = absurd (cc (is, may))
   before n row rest label i is later (suc j) inside may = omega (arith, later.first j (omega (arith, inside)) may)
 

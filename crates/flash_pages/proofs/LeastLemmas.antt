@@ -3,12 +3,12 @@ use Rattle.std.proofs.Common.{◌≡◌, ℕ, zero, suc, ◌+◌, ◌<◌, ◌�
 use Rattle.std.proofs.lemmas.Bool.Decides.{nat_tests}
 use Rattle.flash_pages.specs.declared.page_row.PageRow.{PageRow}
 use Rattle.flash_pages.specs.declared.victims.Candidate.{Candidate}
-use Rattle.flash_pages.specs.PageTable.{blank}
+use Rattle.flash_pages.specs.PageTable.{blank_row}
 use Rattle.flash_pages.specs.Least.{lesser, least_from}
 
 -- the row of number k, at i after n, is this candidate
 abbrev pub Is : (ℕ → PageRow → Option Candidate) → ℕ → List PageRow → ℕ → Option Candidate → Type 0
-Is candidate n rows i chosen = (k : ℕ) → k ≡ n + i → candidate k (get_or rows i blank) ≡ chosen
+Is candidate n rows i chosen = (k : ℕ) → k ≡ n + i → candidate k (get_or rows i blank_row) ≡ chosen
 
 -- the candidate at i has the least weight, and is the first that has it
 pub record IsFirstLeast (candidate : ℕ → PageRow → Option Candidate) (n : ℕ) (rows : List PageRow) (chosen : Candidate) (i : ℕ) : Type 0 where
@@ -40,8 +40,8 @@ none_here candidate n row rest other is also = let at : candidate n row ≡ Some
 
 none_behind : (candidate : ℕ → PageRow → Option Candidate) (n : ℕ) (rows : List PageRow) (i : ℕ) (other : Candidate) → Is candidate n rows i None → Is candidate n rows i (Some other) → ⊥
 none_behind candidate n rows i other is also =
-    let at : candidate (n + i) (get_or rows i blank) ≡ Some other = also (n + i) refl in
-    let none : candidate (n + i) (get_or rows i blank) ≡ None = is (n + i) refl in
+    let at : candidate (n + i) (get_or rows i blank_row) ≡ Some other = also (n + i) refl in
+    let none : candidate (n + i) (get_or rows i blank_row) ≡ None = is (n + i) refl in
     cc
 
 -- the first row, where its weight is at most that of each after it

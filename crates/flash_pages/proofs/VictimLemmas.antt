@@ -6,7 +6,7 @@ use Rattle.flash_names.specs.declared.place.Label.{Label}
 use Rattle.flash_pages.specs.declared.page_row.PageRow.{PageRow}
 use Rattle.flash_pages.specs.declared.victims.Candidate.{Candidate}
 use Rattle.flash_pages.specs.States.{is_full}
-use Rattle.flash_pages.specs.PageTable.{PageTable, blank, free_count, row_of, IsAt}
+use Rattle.flash_pages.specs.PageTable.{PageTable, blank_row, free_count, row_of, IsAt}
 use Rattle.flash_pages.specs.Least.{least_from}
 use Rattle.flash_pages.specs.Victims.{to_evict, to_compact, is_under, MayEvict, IsOldest, NoneToEvict, MayCompact, IsEmptiest, NoneToCompact, victim_evict, victim_compact}
 use Rattle.flash_pages.proofs.LeastLemmas.{Chosen, IsFirstLeast, least_is}
@@ -49,7 +49,7 @@ three false b c all = absurd (cc all)
 abbrev evict_test : Option Label → ℕ → PageRow → Bool
 evict_test under number row = is_full row.state && not (is_under under (record { page = number; version = row.version }))
 
-may_evict : (t : PageTable) (label : Label) → MayEvict t label → (k : ℕ) → k ≡ 0 + label.page → to_evict t.under k (get_or t.rows label.page blank) ≡ Some (record { label = label; weight = label.version })
+may_evict : (t : PageTable) (label : Label) → MayEvict t label → (k : ℕ) → k ≡ 0 + label.page → to_evict t.under k (get_or t.rows label.page blank_row) ≡ Some (record { label = label; weight = label.version })
 may_evict t label may k at =
     let row : PageRow = row_of t label in
     let page : k ≡ label.page = omega (arith, at) in
@@ -59,9 +59,9 @@ may_evict t label may k at =
     told k row.version row.version (evict_test t.under k row) (record { label = label; weight = label.version }) (record { passes = passes; page_is = page; version_is = may.at.version; weight_is = may.at.version })
 
 -- a candidate to evict is such a page
-evicts : (t : PageTable) (number : ℕ) (chosen : Candidate) → number < length t.rows → to_evict t.under number (get_or t.rows number blank) ≡ Some chosen → (number ≡ chosen.label.page) × (chosen.weight ≡ chosen.label.version) × MayEvict t chosen.label
+evicts : (t : PageTable) (number : ℕ) (chosen : Candidate) → number < length t.rows → to_evict t.under number (get_or t.rows number blank_row) ≡ Some chosen → (number ≡ chosen.label.page) × (chosen.weight ≡ chosen.label.version) × MayEvict t chosen.label
 evicts t number chosen inside is =
-    let row : PageRow = get_or t.rows number blank in
+    let row : PageRow = get_or t.rows number blank_row in
     let parts : Tells number row.version row.version (evict_test t.under number row) chosen = tells number row.version row.version (evict_test t.under number row) chosen is in
     let both = two (is_full row.state) (is_under t.under (record { page = number; version = row.version })) parts.passes in
     let other : is_under t.under (record { page = chosen.label.page; version = chosen.label.version }) ≡ false = rw (← parts.page_is, ← parts.version_is) both.1 in
@@ -70,8 +70,8 @@ evicts t number chosen inside is =
 
 evicted_of : (t : PageTable) (least : Option Candidate) → Chosen (to_evict t.under) 0 t.rows least → (few : Bool) → nat_le (free_count t) t.drop_under ≡ few → MatchOption (cond few (option_map (λ c. c.label) least) None) (NoneToEvict t) (IsOldest t)
 evicted_of t None chosen true few = λ under label may.
-    (let none : to_evict t.under label.page (get_or t.rows label.page blank) ≡ None = chosen label.page may.at.inside label.page (omega arith) in
-    let some : to_evict t.under label.page (get_or t.rows label.page blank) ≡ Some (record { label = label; weight = label.version }) = may_evict t label may label.page (omega arith) in
+    (let none : to_evict t.under label.page (get_or t.rows label.page blank_row) ≡ None = chosen label.page may.at.inside label.page (omega arith) in
+    let some : to_evict t.under label.page (get_or t.rows label.page blank_row) ≡ Some (record { label = label; weight = label.version }) = may_evict t label may label.page (omega arith) in
     cc)
 evicted_of t (Some c) chosen true few =
     let least : IsFirstLeast (to_evict t.under) 0 t.rows c chosen.0 = chosen.1 in
@@ -96,7 +96,7 @@ compact_test most row = is_full row.state && not row.spared && nat_le (100 * row
 abbrev most_of : PageTable → ℕ
 most_of t = t.max_frag * t.page_size
 
-may_compact : (t : PageTable) (label : Label) → MayCompact t label → (k : ℕ) → k ≡ 0 + label.page → to_compact (most_of t) k (get_or t.rows label.page blank) ≡ Some (record { label = label; weight = (row_of t label).live_bytes })
+may_compact : (t : PageTable) (label : Label) → MayCompact t label → (k : ℕ) → k ≡ 0 + label.page → to_compact (most_of t) k (get_or t.rows label.page blank_row) ≡ Some (record { label = label; weight = (row_of t label).live_bytes })
 may_compact t label may k at =
     let row : PageRow = row_of t label in
     let page : k ≡ label.page = omega (arith, at) in
@@ -106,9 +106,9 @@ may_compact t label may k at =
     told k row.version row.live_bytes (compact_test (most_of t) row) (record { label = label; weight = row.live_bytes }) (record { passes = passes; page_is = page; version_is = may.at.version; weight_is = refl })
 
 -- a candidate to compact is such a page
-compacts : (t : PageTable) (number : ℕ) (chosen : Candidate) → number < length t.rows → to_compact (most_of t) number (get_or t.rows number blank) ≡ Some chosen → (number ≡ chosen.label.page) × ((row_of t chosen.label).live_bytes ≡ chosen.weight) × MayCompact t chosen.label
+compacts : (t : PageTable) (number : ℕ) (chosen : Candidate) → number < length t.rows → to_compact (most_of t) number (get_or t.rows number blank_row) ≡ Some chosen → (number ≡ chosen.label.page) × ((row_of t chosen.label).live_bytes ≡ chosen.weight) × MayCompact t chosen.label
 compacts t number chosen inside is =
-    let row : PageRow = get_or t.rows number blank in
+    let row : PageRow = get_or t.rows number blank_row in
     let parts : Tells number row.version row.live_bytes (compact_test (most_of t) row) chosen = tells number row.version row.live_bytes (compact_test (most_of t) row) chosen is in
     let all = three (is_full row.state) row.spared (nat_le (100 * row.live_bytes) (most_of t)) parts.passes in
     let may : MayCompact t (record { page = number; version = chosen.label.version }) = record {
@@ -117,14 +117,14 @@ compacts t number chosen inside is =
       fragmented = leb-true _ _ all.2;
     } in (
       parts.page_is,
-      subst (λ (n : ℕ). (get_or t.rows n blank).live_bytes ≡ chosen.weight) parts.page_is parts.weight_is,
+      subst (λ (n : ℕ). (get_or t.rows n blank_row).live_bytes ≡ chosen.weight) parts.page_is parts.weight_is,
       subst (λ (n : ℕ). MayCompact t (record { page = n; version = chosen.label.version })) parts.page_is may,
     )
 
 compacted_of : (t : PageTable) (least : Option Candidate) → Chosen (to_compact (most_of t)) 0 t.rows least → (few : Bool) → nat_le (free_count t) t.compact_under ≡ few → MatchOption (cond few (option_map (λ c. c.label) least) None) (NoneToCompact t) (IsEmptiest t)
 compacted_of t None chosen true few = λ under label may.
-    (let none : to_compact (most_of t) label.page (get_or t.rows label.page blank) ≡ None = chosen label.page may.at.inside label.page (omega arith) in
-    let some : to_compact (most_of t) label.page (get_or t.rows label.page blank) ≡ Some (record { label = label; weight = (row_of t label).live_bytes }) = may_compact t label may label.page (omega arith) in
+    (let none : to_compact (most_of t) label.page (get_or t.rows label.page blank_row) ≡ None = chosen label.page may.at.inside label.page (omega arith) in
+    let some : to_compact (most_of t) label.page (get_or t.rows label.page blank_row) ≡ Some (record { label = label; weight = (row_of t label).live_bytes }) = may_compact t label may label.page (omega arith) in
     cc)
 compacted_of t (Some c) chosen true few =
     let least : IsFirstLeast (to_compact (most_of t)) 0 t.rows c chosen.0 = chosen.1 in

@@ -5,7 +5,7 @@ use Rattle.flash_pages.specs.declared.page_row.Bucket.{Bucket}
 use Rattle.flash_pages.specs.declared.page_row.State.TheVariants.{Free, Full, Ended}
 use Rattle.flash_pages.specs.States.{is_open, is_full, is_ended, is_in_use}
 use Rattle.flash_pages.specs.PageTable.{PageTable, row_of, IsAt, with_row}
-use Rattle.flash_pages.specs.Opening.{next_opened, with_opened}
+use Rattle.flash_pages.specs.Opening.{next_opening, with_page_opened}
 
 -- the calls that change the pages, with what they are given
 pub data Call : Type 0 where
@@ -74,15 +74,15 @@ Allowed t compacts_none = Unit {0}
 Allowed t (spares label) = IsAt is_in_use t label
 
 -- the pages after the call
-abbrev pub after : Call → PageTable → PageTable
-after (opens bucket) t = with_opened t bucket (next_opened t bucket)
-after (pins label) t = if has_ended t label then t else with_row t label (λ row. record row { pins = row.pins + 1 })
-after (unpins label) t = with_row t label (λ row. record row { pins = row.pins - 1 })
-after (adds_live label bytes) t = with_row t label (λ row. record row { live = row.live + 1; live_bytes = row.live_bytes + bytes })
-after (takes_live label bytes) t = with_row t label (λ row. record row { live = row.live - 1; live_bytes = row.live_bytes - bytes })
-after (fills label) t = with_row t label (λ row. record row { state = Full })
-after (ends label) t = with_row t label (λ row. record row { state = Ended })
-after (frees label) t = with_row t label (λ row. record row { state = Free; live = 0; live_bytes = 0; spared = false })
-after (compacts label) t = record t { under = Some label }
-after compacts_none t = record t { under = None }
-after (spares label) t = with_row t label (λ row. record row { spared = true })
+abbrev pub table_after : Call → PageTable → PageTable
+table_after (opens bucket) t = with_page_opened t bucket (next_opening t bucket)
+table_after (pins label) t = if has_ended t label then t else with_row t label (λ row. record row { pins = row.pins + 1 })
+table_after (unpins label) t = with_row t label (λ row. record row { pins = row.pins - 1 })
+table_after (adds_live label bytes) t = with_row t label (λ row. record row { live = row.live + 1; live_bytes = row.live_bytes + bytes })
+table_after (takes_live label bytes) t = with_row t label (λ row. record row { live = row.live - 1; live_bytes = row.live_bytes - bytes })
+table_after (fills label) t = with_row t label (λ row. record row { state = Full })
+table_after (ends label) t = with_row t label (λ row. record row { state = Ended })
+table_after (frees label) t = with_row t label (λ row. record row { state = Free; live = 0; live_bytes = 0; spared = false })
+table_after (compacts label) t = record t { under = Some label }
+table_after compacts_none t = record t { under = None }
+table_after (spares label) t = with_row t label (λ row. record row { spared = true })

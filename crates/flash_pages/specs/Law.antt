@@ -7,18 +7,18 @@ use Rattle.flash_pages.specs.declared.pages.Opened.{Opened}
 use Rattle.flash_pages.specs.declared.pages.Opened.TheVariants.{Page, NoPage}
 use Rattle.flash_pages.specs.States.{is_free}
 use Rattle.flash_pages.specs.PageTable.{PageTable, row_of}
-use Rattle.flash_pages.specs.Opening.{next_opened}
-use Rattle.flash_pages.specs.Calls.{Call, opens, pins, unpins, adds_live, takes_live, fills, ends, frees, compacts, compacts_none, spares, Allowed, after}
+use Rattle.flash_pages.specs.Opening.{next_opening}
+use Rattle.flash_pages.specs.Calls.{Call, opens, pins, unpins, adds_live, takes_live, fills, ends, frees, compacts, compacts_none, spares, Allowed, table_after}
 
 -- each of the calls may be made when it comes
 abbrev pub AllAllowed : PageTable → List Call → Type 0
 AllAllowed t [] = Unit {0}
-AllAllowed t (call ∷ rest) = Allowed t call × AllAllowed (after call t) rest
+AllAllowed t (call ∷ rest) = Allowed t call × AllAllowed (table_after call t) rest
 
 -- the pages after the calls, the first one first
 abbrev pub after_all : List Call → PageTable → PageTable
 after_all [] t = t
-after_all (call ∷ rest) t = after_all rest (after call t)
+after_all (call ∷ rest) t = after_all rest (table_after call t)
 
 -- the label of a page that is opened, if there is one
 abbrev pub label_of : Opened → List Label
@@ -26,23 +26,23 @@ label_of NoPage = []
 label_of (Page label) = label ∷ []
 
 -- the label that a call gives, if it gives one
-abbrev pub given : PageTable → Call → List Label
-given t (opens bucket) = label_of (next_opened t bucket)
-given t (pins label) = []
-given t (unpins label) = []
-given t (adds_live label bytes) = []
-given t (takes_live label bytes) = []
-given t (fills label) = []
-given t (ends label) = []
-given t (frees label) = []
-given t (compacts label) = []
-given t compacts_none = []
-given t (spares label) = []
+abbrev pub label_given : PageTable → Call → List Label
+label_given t (opens bucket) = label_of (next_opening t bucket)
+label_given t (pins label) = []
+label_given t (unpins label) = []
+label_given t (adds_live label bytes) = []
+label_given t (takes_live label bytes) = []
+label_given t (fills label) = []
+label_given t (ends label) = []
+label_given t (frees label) = []
+label_given t (compacts label) = []
+label_given t compacts_none = []
+label_given t (spares label) = []
 
 -- the labels that the calls give, in their order
 abbrev pub labels_given : PageTable → List Call → List Label
 labels_given t [] = []
-labels_given t (call ∷ rest) = given t call ++ labels_given (after call t) rest
+labels_given t (call ∷ rest) = label_given t call ++ labels_given (table_after call t) rest
 
 -- the versions rise, the first above n
 abbrev pub Rise : ℕ → List Label → Type 0
@@ -62,23 +62,23 @@ abbrev pub pins_of : PageTable → Label → ℕ
 pins_of t label = pins_on (row_of t label) label.version
 
 -- one where the call takes a pin from the label's page
-abbrev pub unpinned_by : Label → Call → ℕ
-unpinned_by label (opens bucket) = 0
-unpinned_by label (pins other) = 0
-unpinned_by label (unpins other) = if same_label other label then 1 else 0
-unpinned_by label (adds_live other bytes) = 0
-unpinned_by label (takes_live other bytes) = 0
-unpinned_by label (fills other) = 0
-unpinned_by label (ends other) = 0
-unpinned_by label (frees other) = 0
-unpinned_by label (compacts other) = 0
-unpinned_by label compacts_none = 0
-unpinned_by label (spares other) = 0
+abbrev pub pins_taken : Label → Call → ℕ
+pins_taken label (opens bucket) = 0
+pins_taken label (pins other) = 0
+pins_taken label (unpins other) = if same_label other label then 1 else 0
+pins_taken label (adds_live other bytes) = 0
+pins_taken label (takes_live other bytes) = 0
+pins_taken label (fills other) = 0
+pins_taken label (ends other) = 0
+pins_taken label (frees other) = 0
+pins_taken label (compacts other) = 0
+pins_taken label compacts_none = 0
+pins_taken label (spares other) = 0
 
 -- how many pins the calls take from the label's page
-abbrev pub unpinned_by_all : Label → List Call → ℕ
-unpinned_by_all label [] = 0
-unpinned_by_all label (call ∷ rest) = unpinned_by label call + unpinned_by_all label rest
+abbrev pub all_pins_taken : Label → List Call → ℕ
+all_pins_taken label [] = 0
+all_pins_taken label (call ∷ rest) = pins_taken label call + all_pins_taken label rest
 
 -- the label's page has its version still, and wasn't freed
 pub record IsKept (t : PageTable) (label : Label) : Type 0 where

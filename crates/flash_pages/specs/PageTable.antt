@@ -20,13 +20,13 @@ pub record PageTable : Type 0 where
   pub max_frag : ℕ
 
 -- the row of a page that was never opened
-abbrev pub blank : PageRow
-blank = record { state = Free; version = 0; bucket = Default; pins = 0; live = 0; live_bytes = 0; spared = false }
+abbrev pub blank_row : PageRow
+blank_row = record { state = Free; version = 0; bucket = Default; pins = 0; live = 0; live_bytes = 0; spared = false }
 
 -- the pages of a geometry before the first is opened
 abbrev pub first_table : Geometry → PageTable
 first_table g = record {
-  rows = replicate g.pages blank;
+  rows = replicate g.pages blank_row;
   last_version = 0;
   under = None;
   page_size = g.page_size;
@@ -41,7 +41,7 @@ free_count t = count_by (λ row. is_free row.state) t.rows
 
 -- the row of a label's page
 abbrev pub row_of : PageTable → Label → PageRow
-row_of t label = slice_index_or t.rows label.page blank
+row_of t label = slice_index_or t.rows label.page blank_row
 
 -- the label's page has its version, in a state that passes
 pub record IsAt (passes : State → Bool) (t : PageTable) (label : Label) : Type 0 where

@@ -6,7 +6,7 @@ ghost use Rattle.flash_pages.specs.PageTable.{PageTable};
 ghost use Rattle.flash_pages.specs.Calls.{Call, has_ended};
 ghost use Rattle.flash_pages.specs.Freeable.{freeable, NoneToFree, IsFirstToFree};
 ghost use Rattle.flash_pages.specs.Victims.{victim_evict, victim_compact, NoneToEvict, IsOldest, NoneToCompact, IsEmptiest};
-ghost use Rattle.flash_pages.specs.Law.{AllAllowed, after_all, labels_given, Rise, pins_of, unpinned_by_all, IsKept};
+ghost use Rattle.flash_pages.specs.Law.{AllAllowed, after_all, labels_given, Rise, pins_of, all_pins_taken, IsKept};
 
 /// What holds over any list of calls that each may be made: a page keeps its version while a pin is left on
 /// it, a label that has ended stays ended, and a label that was given is never given again; and which pages
@@ -15,9 +15,9 @@ pub fn keeps_the_law()
     // A label's pins fall by those that are taken from it alone, and while one is left its page is neither
     // freed nor opened again.
     ensures counted { (t : PageTable) (label : Label) (calls : List Call) →
-        AllAllowed t calls → pins_of t label ≤ pins_of (after_all calls t) label + unpinned_by_all label calls }
+        AllAllowed t calls → pins_of t label ≤ pins_of (after_all calls t) label + all_pins_taken label calls }
     ensures pinned { (t : PageTable) (label : Label) (calls : List Call) →
-        AllAllowed t calls → unpinned_by_all label calls < pins_of t label → IsKept (after_all calls t) label }
+        AllAllowed t calls → all_pins_taken label calls < pins_of t label → IsKept (after_all calls t) label }
 
     // A label that was given and has ended stays ended.
     ensures ended { (t : PageTable) (label : Label) (calls : List Call) →

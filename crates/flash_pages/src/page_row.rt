@@ -1,5 +1,5 @@
 ghost use Rattle.std.specs.Prelude.{◌≡◌};
-ghost use Rattle.flash_pages.specs.Opening.{opened_row};
+ghost use Rattle.flash_pages.specs.Opening.{open_row};
 ghost use Rattle.flash_pages.specs.States.{is_free, is_open, is_full, is_ended, is_in_use};
 
 /// What a page is used for now.
@@ -87,7 +87,7 @@ impl PageRow {
 
     /// The row of a page that has just been opened.
     pub fn opened(bucket: Bucket, version: u64) -> PageRow
-        ensures { result ≡ opened_row bucket version }
+        ensures { result ≡ open_row bucket version }
     {
         PageRow {
             state: State::Open,

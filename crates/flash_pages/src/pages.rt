@@ -2,11 +2,11 @@ ghost use Rattle.std.specs.Prelude.{◌≡◌, ℕ, ◌+◌, ◌*◌, ◌^◌, �
 ghost use Rattle.std.specs.List.{position_from};
 ghost use Rattle.flash_names.specs.declared.geometry.Geometry.{Geometry};
 ghost use Rattle.flash_pages.specs.States.{is_free, is_open, is_full, is_ended, is_in_use};
-ghost use Rattle.flash_pages.specs.PageTable.{PageTable, blank, first_table, free_count, row_of, IsAt};
-ghost use Rattle.flash_pages.specs.Opening.{next_opened, is_refused, wanted, WasFree, IsFreeRow};
+ghost use Rattle.flash_pages.specs.PageTable.{PageTable, blank_row, first_table, free_count, row_of, IsAt};
+ghost use Rattle.flash_pages.specs.Opening.{next_opening, is_refused, pages_wanted, WasFree, IsFreeRow};
 ghost use Rattle.flash_pages.specs.Freeable.{freeable, first_freeable};
 ghost use Rattle.flash_pages.specs.Victims.{victim_evict, victim_compact};
-ghost use Rattle.flash_pages.specs.Calls.{after, opens, pins, unpins, adds_live, takes_live, fills, ends, frees, compacts, compacts_none, spares, has_ended, CanPin, HasPin, CanAdd, HasLive, CanFree, CanCompact};
+ghost use Rattle.flash_pages.specs.Calls.{table_after, opens, pins, unpins, adds_live, takes_live, fills, ends, frees, compacts, compacts_none, spares, has_ended, CanPin, HasPin, CanAdd, HasLive, CanFree, CanCompact};
 
 use crate::page_row::{Bucket, PageRow, State};
 use crate::victims::{least_to_compact, least_to_evict};
@@ -93,11 +93,11 @@ impl Pages {
     /// What `open_page` would answer: the free page of lowest number, with the version above the last that
     /// was given. The last free page is opened for compaction alone.
     pub fn next_page(&self, bucket: Bucket) -> Opened
-        ensures exact { result ≡ next_opened self.now bucket }
+        ensures exact { result ≡ next_opening self.now bucket }
         ensures none { (result ≡ Opened.NoPage) ↔ IsTrue (is_refused self.now bucket) }
         ensures free { WasFree self.now result }
     {
-        if self.free < wanted(bucket) || self.last_version >= LAST_VERSION {
+        if self.free < pages_wanted(bucket) || self.last_version >= LAST_VERSION {
             return Opened::NoPage;
         }
         match first_free(&self.rows) {
@@ -112,10 +112,10 @@ impl Pages {
     /// Opens the free page of lowest number, with the version above the last that was given. The last free
     /// page is opened for compaction alone. After `NoPage` nothing has changed.
     pub fn open_page(&mut self, bucket: Bucket) -> Opened
-        ensures exact { result ≡ next_opened self.old bucket }
+        ensures exact { result ≡ next_opening self.old bucket }
         ensures none { (result ≡ Opened.NoPage) ↔ IsTrue (is_refused self.old bucket) }
         ensures free { WasFree self.old result }
-        ensures after { self.new ≡ after (opens bucket) self.old }
+        ensures after { self.new ≡ table_after (opens bucket) self.old }
     {
         let opened = self.next_page(bucket);
         if let Opened::Page(label) = opened {
@@ -130,7 +130,7 @@ impl Pages {
     pub fn pin(&mut self, label: Label) -> Pinned
         requires { CanPin self.old label }
         ensures exact { result ≡ (if has_ended self.old label then Pinned.Ended else Pinned.Yes) }
-        ensures after { self.new ≡ after (pins label) self.old }
+        ensures after { self.new ≡ table_after (pins label) self.old }
     {
         if self.has_ended(label) {
             return Pinned::Ended;
@@ -149,7 +149,7 @@ impl Pages {
     /// Counts one pin fewer on the label's page. The page has to have the label's version and a pin.
     pub fn unpin(&mut self, label: Label)
         requires { HasPin self.old label }
-        ensures { self.new ≡ after (unpins label) self.old }
+        ensures { self.new ≡ table_after (unpins label) self.old }
     {
         let row = self.row(label.page);
         self.put(
@@ -166,7 +166,7 @@ impl Pages {
     /// at most a page's.
     pub fn add_live(&mut self, label: Label, bytes: u32)
         requires { CanAdd self.old label bytes }
-        ensures { self.new ≡ after (adds_live label bytes) self.old }
+        ensures { self.new ≡ table_after (adds_live label bytes) self.old }
     {
         let row = self.row(label.page);
         // Read for the proof: a page has fewer than 2^32 bytes, so the sum doesn't wrap.
@@ -185,7 +185,7 @@ impl Pages {
     /// version, a live record and so many live bytes.
     pub fn take_live(&mut self, label: Label, bytes: u32)
         requires { HasLive self.old label bytes }
-        ensures { self.new ≡ after (takes_live label bytes) self.old }
+        ensures { self.new ≡ table_after (takes_live label bytes) self.old }
     {
         let row = self.row(label.page);
         self.put(
@@ -210,7 +210,7 @@ impl Pages {
     /// label's version.
     pub fn filled(&mut self, label: Label)
         requires { IsAt is_open self.old label }
-        ensures { self.new ≡ after (fills label) self.old }
+        ensures { self.new ≡ table_after (fills label) self.old }
     {
         let row = self.row(label.page);
         self.put(
@@ -226,7 +226,7 @@ impl Pages {
     /// or Full with the label's version.
     pub fn end(&mut self, label: Label)
         requires { IsAt is_in_use self.old label }
-        ensures { self.new ≡ after (ends label) self.old }
+        ensures { self.new ≡ table_after (ends label) self.old }
     {
         let row = self.row(label.page);
         self.put(
@@ -258,7 +258,7 @@ impl Pages {
     /// Makes the label's page Free. The page has to be Ended, with the label's version and no pin.
     pub fn free(&mut self, label: Label)
         requires { CanFree self.old label }
-        ensures { self.new ≡ after (frees label) self.old }
+        ensures { self.new ≡ table_after (frees label) self.old }
     {
         let row = self.row(label.page);
         self.put(
@@ -308,14 +308,14 @@ impl Pages {
     /// version, and none may be under compaction.
     pub fn compact_on(&mut self, label: Label)
         requires { CanCompact self.old label }
-        ensures { self.new ≡ after (compacts label) self.old }
+        ensures { self.new ≡ table_after (compacts label) self.old }
     {
         self.under = Some(label);
     }
 
     /// Ends the compaction that is under way, if one is.
     pub fn compact_off(&mut self)
-        ensures { self.new ≡ after compacts_none self.old }
+        ensures { self.new ≡ table_after compacts_none self.old }
     {
         self.under = None;
     }
@@ -324,7 +324,7 @@ impl Pages {
     /// label's version.
     pub fn spare(&mut self, label: Label)
         requires { IsAt is_in_use self.old label }
-        ensures { self.new ≡ after (spares label) self.old }
+        ensures { self.new ≡ table_after (spares label) self.old }
     {
         let row = self.row(label.page);
         self.put(
@@ -338,7 +338,7 @@ impl Pages {
 
     fn row(&self, page: u32) -> PageRow
         requires { page < length self.now.rows }
-        ensures { result ≡ slice_index_or self.now.rows page blank }
+        ensures { result ≡ slice_index_or self.now.rows page blank_row }
     {
         self.rows[page as usize]
     }
@@ -355,8 +355,8 @@ impl Pages {
 }
 
 // How many pages have to be free for one to be opened.
-fn wanted(bucket: Bucket) -> usize
-    ensures { result ≡ wanted bucket }
+fn pages_wanted(bucket: Bucket) -> usize
+    ensures { result ≡ pages_wanted bucket }
 {
     match bucket {
         Bucket::Default => 2,

@@ -5,10 +5,10 @@ use Rattle.std.proofs.lemmas.List.{take_at}
 use Rattle.std.specs.Int.{to_be_bytes, w32, w64}
 use Rattle.flash_crc.specs.Crc32c.{crc32c}
 use Rattle.flash_record.specs.Record.{Parts, Fits, content, record_bytes, record_length}
-use Rattle.flash_record.specs.Reading.{number_at, agrees_at, agrees_with_magic, key_length, value_length, checksum_place, parts_at}
+use Rattle.flash_record.specs.Reading.{number_at, agrees_at, agrees_with_magic, key_length, value_length, checksum_offset, parts_at}
 use Rattle.flash_crc.specs.Bytes.{IsBytes}
 use Rattle.flash_record.proofs.Bytes.{piece, number_32, number_64, fits_32, fits_64}
-use Rattle.flash_record.proofs.Places.{content_length}
+use Rattle.flash_record.proofs.Offsets.{content_length}
 use Rattle.flash_record.proofs.Order.{Passes}
 
 second : (a b : Bool) → a ≡ false → (a || b) ≡ true → b ≡ true
@@ -45,13 +45,13 @@ shape_is : (p : Parts) (back : List ℕ) → shape (length p.key) (length p.valu
 unfolding shape content
 shape_is p back = refl
 
-has_shape : (bytes : List ℕ) → IsBytes bytes → 28 ≤ length bytes → agrees_with_magic bytes ≡ true → bytes ≡ shape (key_length bytes) (value_length bytes) (parts_at bytes) (drop (checksum_place bytes) bytes)
+has_shape : (bytes : List ℕ) → IsBytes bytes → 28 ≤ length bytes → agrees_with_magic bytes ≡ true → bytes ≡ shape (key_length bytes) (value_length bytes) (parts_at bytes) (drop (checksum_offset bytes) bytes)
 unfolding shape
 has_shape bytes each head magic =
     let p = parts_at bytes in
     let k = key_length bytes in
     let v = value_length bytes in
-    let place = checksum_place bytes in
+    let place = checksum_offset bytes in
     magic_is bytes (omega arith) magic
     ∙ ap (λ (l : List ℕ). 0x46 ∷ 0x52 ∷ 0x01 ∷ k ∷ l) (number_32 4 8 bytes each refl (omega arith)
     ∙ ap (λ (l : List ℕ). to_be_bytes w32 p.flags ++ l) (number_32 8 12 bytes each refl (omega arith)
@@ -62,10 +62,10 @@ has_shape bytes each head magic =
     ∙ sym (append_assoc p.key p.value (drop place bytes)))))))
 
 -- the content is at the front
-content_is : (bytes : List ℕ) → IsBytes bytes → 28 ≤ length bytes → checksum_place bytes ≤ length bytes → agrees_with_magic bytes ≡ true → bytes ≡ content (parts_at bytes) ++ drop (checksum_place bytes) bytes
+content_is : (bytes : List ℕ) → IsBytes bytes → 28 ≤ length bytes → checksum_offset bytes ≤ length bytes → agrees_with_magic bytes ≡ true → bytes ≡ content (parts_at bytes) ++ drop (checksum_offset bytes) bytes
 content_is bytes each head long magic =
     let p = parts_at bytes in
-    let back = drop (checksum_place bytes) bytes in
+    let back = drop (checksum_offset bytes) bytes in
     has_shape bytes each head magic
     ∙ ap (λ (k : ℕ). shape k (value_length bytes) p back) (sym (size_of (key_length bytes) 28 bytes (omega arith)))
     ∙ ap (λ (v : ℕ). shape (length p.key) v p back) (sym (size_of (value_length bytes) (28 + key_length bytes) bytes long))
@@ -76,7 +76,7 @@ pub stands : (bytes : List ℕ) → IsBytes bytes → Passes bytes → (Fits (pa
 unfolding record_bytes
 stands bytes each passes =
     let p = parts_at bytes in
-    let place = checksum_place bytes in
+    let place = checksum_offset bytes in
     let head : 32 ≤ length bytes = ltb-false _ _ passes.head in
     let room : place + 4 ≤ length bytes = ltb-false _ _ passes.room in
     let key = and_parts (nat_le 1 (key_length bytes)) (nat_le (key_length bytes) 250) passes.key in

@@ -1,6 +1,6 @@
 pub mod Answered
 pub mod Bytes
 mod Found
-pub mod Places
+pub mod Offsets
 pub mod Order
 mod Written

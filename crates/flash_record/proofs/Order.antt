@@ -5,34 +5,34 @@ use Rattle.std.proofs.lemmas.Bool.Decides.{nat_tests}
 use Rattle.flash_record.specs.declared.not_record.NotRecord.{NotRecord}
 use Rattle.flash_record.specs.declared.not_record.NotRecord.TheVariants.{End, Magic, Short, Lengths, Sum}
 use Rattle.flash_record.specs.Record.{Parts}
-use Rattle.flash_record.specs.Reading.{read, is_end, agrees_with_magic, key_length, checksum_place, has_checksum, parts_at}
+use Rattle.flash_record.specs.Reading.{record_at_front, is_end, agrees_with_magic, key_length, checksum_offset, has_checksum, parts_at}
 
 -- the length of the key is one
 abbrev pub has_key : List ℕ → Bool
 has_key bytes = nat_le 1 (key_length bytes) && nat_le (key_length bytes) 250
 
-pub at_end : (bytes : List ℕ) → is_end bytes ≡ true → read bytes ≡ Err End
-unfolding read
+pub at_end : (bytes : List ℕ) → is_end bytes ≡ true → record_at_front bytes ≡ Err End
+unfolding record_at_front
 at_end bytes a = rw a refl
 
-pub no_magic : (bytes : List ℕ) → is_end bytes ≡ false → agrees_with_magic bytes ≡ false → read bytes ≡ Err Magic
-unfolding read
+pub no_magic : (bytes : List ℕ) → is_end bytes ≡ false → agrees_with_magic bytes ≡ false → record_at_front bytes ≡ Err Magic
+unfolding record_at_front
 no_magic bytes a b = rw (a, b) refl
 
-pub no_head : (bytes : List ℕ) → is_end bytes ≡ false → agrees_with_magic bytes ≡ true → nat_lt (length bytes) 32 ≡ true → read bytes ≡ Err Short
-unfolding read
+pub no_head : (bytes : List ℕ) → is_end bytes ≡ false → agrees_with_magic bytes ≡ true → nat_lt (length bytes) 32 ≡ true → record_at_front bytes ≡ Err Short
+unfolding record_at_front
 no_head bytes a b c = rw (a, b, c) refl
 
-pub no_key : (bytes : List ℕ) → is_end bytes ≡ false → agrees_with_magic bytes ≡ true → nat_lt (length bytes) 32 ≡ false → has_key bytes ≡ false → read bytes ≡ Err Lengths
-unfolding read
+pub no_key : (bytes : List ℕ) → is_end bytes ≡ false → agrees_with_magic bytes ≡ true → nat_lt (length bytes) 32 ≡ false → has_key bytes ≡ false → record_at_front bytes ≡ Err Lengths
+unfolding record_at_front
 no_key bytes a b c d = rw (a, b, c, d) refl
 
-pub no_room : (bytes : List ℕ) → is_end bytes ≡ false → agrees_with_magic bytes ≡ true → nat_lt (length bytes) 32 ≡ false → has_key bytes ≡ true → nat_lt (length bytes) (checksum_place bytes + 4) ≡ true → read bytes ≡ Err Short
-unfolding read
+pub no_room : (bytes : List ℕ) → is_end bytes ≡ false → agrees_with_magic bytes ≡ true → nat_lt (length bytes) 32 ≡ false → has_key bytes ≡ true → nat_lt (length bytes) (checksum_offset bytes + 4) ≡ true → record_at_front bytes ≡ Err Short
+unfolding record_at_front
 no_room bytes a b c d e = rw (a, b, c, d, e) refl
 
-pub no_checksum : (bytes : List ℕ) → is_end bytes ≡ false → agrees_with_magic bytes ≡ true → nat_lt (length bytes) 32 ≡ false → has_key bytes ≡ true → nat_lt (length bytes) (checksum_place bytes + 4) ≡ false → has_checksum bytes ≡ false → read bytes ≡ Err Sum
-unfolding read
+pub no_checksum : (bytes : List ℕ) → is_end bytes ≡ false → agrees_with_magic bytes ≡ true → nat_lt (length bytes) 32 ≡ false → has_key bytes ≡ true → nat_lt (length bytes) (checksum_offset bytes + 4) ≡ false → has_checksum bytes ≡ false → record_at_front bytes ≡ Err Sum
+unfolding record_at_front
 no_checksum bytes a b c d e f = rw (a, b, c, d, e, f) refl
 
 pub short_key : (bytes : List ℕ) → key_length bytes < 1 → has_key bytes ≡ false
@@ -44,8 +44,8 @@ long_key bytes high = grind (arith, nat_tests)
 pub good_key : (bytes : List ℕ) → 1 ≤ key_length bytes → key_length bytes ≤ 250 → has_key bytes ≡ true
 good_key bytes low high = grind (arith, nat_tests)
 
-pub all_pass : (bytes : List ℕ) → is_end bytes ≡ false → agrees_with_magic bytes ≡ true → nat_lt (length bytes) 32 ≡ false → has_key bytes ≡ true → nat_lt (length bytes) (checksum_place bytes + 4) ≡ false → has_checksum bytes ≡ true → read bytes ≡ Ok (parts_at bytes)
-unfolding read
+pub all_pass : (bytes : List ℕ) → is_end bytes ≡ false → agrees_with_magic bytes ≡ true → nat_lt (length bytes) 32 ≡ false → has_key bytes ≡ true → nat_lt (length bytes) (checksum_offset bytes + 4) ≡ false → has_checksum bytes ≡ true → record_at_front bytes ≡ Ok (parts_at bytes)
+unfolding record_at_front
 all_pass bytes a b c d e f = rw (a, b, c, d, e, f) refl
 
 -- the tests that a record passes
@@ -54,7 +54,7 @@ pub record Passes (bytes : List ℕ) : Type 0 where
   pub magic : agrees_with_magic bytes ≡ true
   pub head : nat_lt (length bytes) 32 ≡ false
   pub key : has_key bytes ≡ true
-  pub room : nat_lt (length bytes) (checksum_place bytes + 4) ≡ false
+  pub room : nat_lt (length bytes) (checksum_offset bytes + 4) ≡ false
   pub checksum : has_checksum bytes ≡ true
 
 same_parts : (x y : Parts) → ◌≡◌ {A = Result Parts NotRecord} (Ok x) (Ok y) → x ≡ y
@@ -65,8 +65,8 @@ past : (b : Bool) (e : NotRecord) (y : Result Parts NotRecord) (p : Parts) → (
 past true e y p is = absurd (cc is)
 past false e y p is = (refl, is)
 
-pub only_passing : (bytes : List ℕ) (p : Parts) → read bytes ≡ Ok p → (Passes bytes) × (parts_at bytes ≡ p)
-unfolding read
+pub only_passing : (bytes : List ℕ) (p : Parts) → record_at_front bytes ≡ Ok p → (Passes bytes) × (parts_at bytes ≡ p)
+unfolding record_at_front
 only_passing bytes p is =
     let a = past _ _ _ p is in
     let b = past _ _ _ p a.1 in

@@ -33,8 +33,8 @@ abbrev pub value_length : List ℕ → ℕ
 value_length bytes = number_at w32 8 bytes
 
 -- where the checksum begins
-abbrev pub checksum_place : List ℕ → ℕ
-checksum_place bytes = 28 + key_length bytes + value_length bytes
+abbrev pub checksum_offset : List ℕ → ℕ
+checksum_offset bytes = 28 + key_length bytes + value_length bytes
 
 -- the parts that are at their places, by these lengths
 abbrev pub parts_at : List ℕ → Parts
@@ -48,16 +48,16 @@ parts_at bytes = record {
 
 -- the checksum is that of the bytes before it
 abbrev pub has_checksum : List ℕ → Bool
-has_checksum bytes = nat_eq (number_at w32 (checksum_place bytes) bytes) (crc32c (take (checksum_place bytes) bytes))
+has_checksum bytes = nat_eq (number_at w32 (checksum_offset bytes) bytes) (crc32c (take (checksum_offset bytes) bytes))
 
 -- the parts of the record at the front, or the first of these faults
-unfoldable pub read : List ℕ → Result Parts NotRecord
-read bytes =
+unfoldable pub record_at_front : List ℕ → Result Parts NotRecord
+record_at_front bytes =
     if is_end bytes then Err End
     else (if not (agrees_with_magic bytes) then Err Magic
     else (if nat_lt (length bytes) 32 then Err Short
     else (if not (nat_le 1 (key_length bytes) && nat_le (key_length bytes) 250) then Err Lengths
-    else (if nat_lt (length bytes) (checksum_place bytes + 4) then Err Short
+    else (if nat_lt (length bytes) (checksum_offset bytes + 4) then Err Short
     else (if not (has_checksum bytes) then Err Sum
     else Ok (parts_at bytes))))))
 

@@ -1,7 +1,7 @@
 ghost use Rattle.std.specs.Prelude.{◌≡◌, ◌↔◌, ◌+◌, ◌≤◌, ℕ, List, ◌++◌, drop, length, Ok, IfOk, IsTrue, IsOk};
 ghost use Rattle.std.specs.Int.{w32, w64};
 ghost use Rattle.flash_record.specs.Record.{Parts, Fits, record_bytes, record_length};
-ghost use Rattle.flash_record.specs.Reading.{parts_of, read, is_end, agrees_with_magic, agrees_at, number_at, key_length as key_length_at, checksum_place as checksum_place_at, parts_at, has_checksum, Gives, IsRecordOf};
+ghost use Rattle.flash_record.specs.Reading.{parts_of, record_at_front, is_end, agrees_with_magic, agrees_at, number_at, key_length as key_length_at, checksum_offset as checksum_place_at, parts_at, has_checksum, Gives, IsRecordOf};
 
 use crate::NotRecord;
 use crate::layout::{
@@ -40,14 +40,14 @@ pub fn read_record(bytes: &[u8]) -> Result<Record<'_>, NotRecord>
     ensures only { (p : Parts) (rest : List ℕ) → Fits p → bytes.now ≡ record_bytes p ++ rest → Gives result (Ok p) }
 
     // Which answer it is.
-    ensures exact { Gives result (read bytes.now) }
+    ensures exact { Gives result (record_at_front bytes.now) }
 {
     first_of(bytes)
 }
 
 // The record at the front, or the first reason why there is none.
 fn first_of(bytes: &[u8]) -> Result<Record<'_>, NotRecord>
-    ensures exact { Gives result (read bytes.now) }
+    ensures exact { Gives result (record_at_front bytes.now) }
     ensures length { IfOk result (λ r. (r.length ≡ record_length (parts_of r)) × (r.length ≤ length bytes.now)) }
 {
     if is_end(bytes) {
@@ -64,21 +64,21 @@ fn first_of(bytes: &[u8]) -> Result<Record<'_>, NotRecord>
         return Err(NotRecord::Lengths);
     }
     let value_length = u32_at(bytes, VALUE_LENGTH_OFFSET) as usize;
-    let checksum_place = HEAD_LENGTH + key_length + value_length;
-    if bytes.len() < checksum_place + CHECKSUM_LENGTH {
+    let checksum_offset = HEAD_LENGTH + key_length + value_length;
+    if bytes.len() < checksum_offset + CHECKSUM_LENGTH {
         return Err(NotRecord::Short);
     }
-    if !has_checksum(bytes, checksum_place) {
+    if !has_checksum(bytes, checksum_offset) {
         return Err(NotRecord::Sum);
     }
-    Ok(record_at(bytes, key_length, checksum_place))
+    Ok(record_at(bytes, key_length, checksum_offset))
 }
 
 // The record whose checksum begins at `checksum_place`.
-fn record_at(bytes: &[u8], key_length: usize, checksum_place: usize) -> Record<'_>
+fn record_at(bytes: &[u8], key_length: usize, checksum_offset: usize) -> Record<'_>
     requires key { key_length ≡ key_length_at bytes.now }
-    requires place { checksum_place ≡ checksum_place_at bytes.now }
-    requires room { checksum_place + 4 ≤ length bytes.now }
+    requires place { checksum_offset ≡ checksum_place_at bytes.now }
+    requires room { checksum_offset + 4 ≤ length bytes.now }
     ensures parts { parts_of result ≡ parts_at bytes.now }
     ensures length { result.length ≡ record_length (parts_of result) }
     ensures within { result.length ≤ length bytes.now }
@@ -88,18 +88,18 @@ fn record_at(bytes: &[u8], key_length: usize, checksum_place: usize) -> Record<'
         flags: u32_at(bytes, FLAGS_OFFSET),
         cas: u64_at(bytes, CAS_OFFSET),
         version: u64_at(bytes, VERSION_OFFSET),
-        value: &bytes[HEAD_LENGTH + key_length..checksum_place],
-        length: checksum_place + CHECKSUM_LENGTH,
+        value: &bytes[HEAD_LENGTH + key_length..checksum_offset],
+        length: checksum_offset + CHECKSUM_LENGTH,
     }
 }
 
 // Whether the checksum there is that of the bytes before it.
-fn has_checksum(bytes: &[u8], checksum_place: usize) -> bool
-    requires place { checksum_place ≡ checksum_place_at bytes.now }
-    requires room { checksum_place + 4 ≤ length bytes.now }
+fn has_checksum(bytes: &[u8], checksum_offset: usize) -> bool
+    requires place { checksum_offset ≡ checksum_place_at bytes.now }
+    requires room { checksum_offset + 4 ≤ length bytes.now }
     ensures { result ≡ has_checksum bytes.now }
 {
-    u32_at(bytes, checksum_place) == crc32c(&bytes[..checksum_place])
+    u32_at(bytes, checksum_offset) == crc32c(&bytes[..checksum_offset])
 }
 
 fn is_end(bytes: &[u8]) -> bool

@@ -31,9 +31,9 @@ pub fn write_record(
     if length > into.len() {
         return None;
     }
-    let checksum_place = write_content(into, key, flags, cas, version, value);
-    let sum = crc32c(&into[..checksum_place]);
-    Some(put(into, checksum_place, &sum.to_be_bytes()))
+    let checksum_offset = write_content(into, key, flags, cas, version, value);
+    let sum = crc32c(&into[..checksum_offset]);
+    Some(put(into, checksum_offset, &sum.to_be_bytes()))
 }
 
 // Writes all of the record but its checksum, and answers where that begins.

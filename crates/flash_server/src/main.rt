@@ -35,7 +35,7 @@ exit status: 0 done, 2 usage, 3 a bad line in the script, 4 standard input faile
 const VERSION: &str = "flash_server 1.6-flash\n";
 
 fn main(rt: HostRuntime) -> ExitCode {
-    let status = match read_words(&rt) {
+    let status = match program_words(&rt) {
         Ok(Some(words)) => run(&rt, &words),
         Ok(None) => Status::Usage,
         Err(AllocError) => Status::NoMemory,
@@ -45,7 +45,7 @@ fn main(rt: HostRuntime) -> ExitCode {
 }
 
 // The words of the command line after the program's name, or `None` where one isn't UTF-8.
-fn read_words(rt: &HostRuntime) -> Result<Option<Vec<Blob>>, AllocError> {
+fn program_words(rt: &HostRuntime) -> Result<Option<Vec<Blob>>, AllocError> {
     let alloc = rt.alloc();
     let Ok(args) = env::args(rt) else {
         return Ok(None);
@@ -61,12 +61,12 @@ fn run(rt: &HostRuntime, words: &[Blob]) -> Status {
     match words {
         [word] if word.bytes() == b"--help".as_slice() => print_text(rt, HELP),
         [word] if word.bytes() == b"--version".as_slice() => print_text(rt, VERSION),
-        [word, ..] if word.bytes() == b"trace".as_slice() => trace(rt, words),
+        [word, ..] if word.bytes() == b"trace".as_slice() => trace_standard_input(rt, words),
         _ => Status::Usage,
     }
 }
 
-fn trace(rt: &HostRuntime, words: &[Blob]) -> Status {
+fn trace_standard_input(rt: &HostRuntime, words: &[Blob]) -> Status {
     let mut source = ReaderSource::new(rt.reader());
     let mut sink = WriterSink::new(io::writer(rt));
     let mut device = FaultlessDevice::new(rt.alloc());

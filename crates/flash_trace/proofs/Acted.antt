@@ -40,7 +40,7 @@ module _ (g : Geometry) (pass : ℕ) where
   pub record Serves (state : StoreState × Seat) (done : List Command) : Type 0 where
     pub kept : IsKept g state.0
     pub new : IsNew state.0.journal (number_of pass state.1)
-    pub served : IsServed g pass state.0.journal done state.1.last state.1.said
+    pub served : IsServed g pass state.0.journal done state.1.last state.1.replies
 
   -- one command keeps the store
   act_kept : (state : StoreState × Seat) (command : Command) → IsNew state.0.journal (number_of pass state.1) → IsKept g state.0 → IsKept g (act g pass state command).0
@@ -56,20 +56,20 @@ module _ (g : Geometry) (pass : ℕ) where
 
   -- the session was answered for one command more
   act_served : (state : StoreState × Seat) (done : List Command) (command : Command) → Serves state done
-      → IsServed g pass (act g pass state command).0.journal (done ++ command ∷ []) (act g pass state command).1.last (act g pass state command).1.said
+      → IsServed g pass (act g pass state command).0.journal (done ++ command ∷ []) (act g pass state command).1.last (act g pass state command).1.replies
   act_served state done (Get key) was =
       let k = state.0 in
       let id = number_of pass state.1 in
       let call = look_call k.cache k.desk id key plainly in
-      served_step g pass k.journal call.entries k.cache done state.1.last state.1.said (Get key) (asks.Look key plainly) _ was.kept.run.same was.new
+      served_step g pass k.journal call.entries k.cache done state.1.last state.1.replies (Get key) (asks.Look key plainly) _ was.kept.run.same was.new
       (look_records g k.journal k.cache k.desk id key plainly (was.kept.here key)) refl was.served
   act_served state done (Store put) was =
       let k = state.0 in
       let id = number_of pass state.1 in
       let call = store_call g k.cache k.desk id put in
-      served_step g pass k.journal call.entries k.cache done state.1.last state.1.said (Store put) (asks.Store put) (told.Stored call.answer) was.kept.run.same was.new
+      served_step g pass k.journal call.entries k.cache done state.1.last state.1.replies (Store put) (asks.Store put) (told.Stored call.answer) was.kept.run.same was.new
       (store_records g k.journal k.cache k.desk id put) refl was.served
-  act_served state done (Refused refusal) was = served_plain g pass state.0.journal done state.1.last state.1.said (Refused refusal) refl was.served
+  act_served state done (Refused refusal) was = served_plain g pass state.0.journal done state.1.last state.1.replies (Refused refusal) refl was.served
 
   -- one command more
   pub act_serves : (state : StoreState × Seat) (done : List Command) (command : Command) → Serves state done → Serves (act g pass state command) (done ++ command ∷ [])
@@ -87,24 +87,24 @@ module _ (g : Geometry) (pass : ℕ) where
       (act_all_serves (act g pass state command) (done ++ command ∷ []) more (act_serves state done command was))
 
   -- another session was answered as before
-  act_serves_other : (other : ℕ) (state : StoreState × Seat) (command : Command) (done : List Command) (last : ℕ) (said : List ℕ) → pass ≢ other → IsServed g other state.0.journal done last said
-      → IsServed g other (act g pass state command).0.journal done last said
-  act_serves_other other state (Get key) done last said differ was =
+  act_serves_other : (other : ℕ) (state : StoreState × Seat) (command : Command) (done : List Command) (last : ℕ) (replies : List ℕ) → pass ≢ other → IsServed g other state.0.journal done last replies
+      → IsServed g other (act g pass state command).0.journal done last replies
+  act_serves_other other state (Get key) done last replies differ was =
       let k = state.0 in
       let id = number_of pass state.1 in
-      served_other g other k.journal (look_call k.cache k.desk id key plainly).entries done last said id (asks.Look key plainly) differ (look_asked k.cache k.desk id key plainly) was
-  act_serves_other other state (Store put) done last said differ was =
+      served_other g other k.journal (look_call k.cache k.desk id key plainly).entries done last replies id (asks.Look key plainly) differ (look_asked k.cache k.desk id key plainly) was
+  act_serves_other other state (Store put) done last replies differ was =
       let k = state.0 in
       let id = number_of pass state.1 in
-      served_other g other k.journal (store_call g k.cache k.desk id put).entries done last said id (asks.Store put) differ (store_asked k.cache k.desk id g put) was
-  act_serves_other other state (Refused refusal) done last said differ was = was
+      served_other g other k.journal (store_call g k.cache k.desk id put).entries done last replies id (asks.Store put) differ (store_asked k.cache k.desk id g put) was
+  act_serves_other other state (Refused refusal) done last replies differ was = was
 
   -- so it was after all of them
-  pub act_all_serves_other : (other : ℕ) (state : StoreState × Seat) (commands : List Command) (done : List Command) (last : ℕ) (said : List ℕ) → pass ≢ other → IsServed g other state.0.journal done last said
-      → IsServed g other (act_all g pass state commands).0.journal done last said
-  act_all_serves_other other state [] done last said differ was = was
-  act_all_serves_other other state (command ∷ more) done last said differ was =
-      act_all_serves_other other (act g pass state command) more done last said differ (act_serves_other other state command done last said differ was)
+  pub act_all_serves_other : (other : ℕ) (state : StoreState × Seat) (commands : List Command) (done : List Command) (last : ℕ) (replies : List ℕ) → pass ≢ other → IsServed g other state.0.journal done last replies
+      → IsServed g other (act_all g pass state commands).0.journal done last replies
+  act_all_serves_other other state [] done last replies differ was = was
+  act_all_serves_other other state (command ∷ more) done last replies differ was =
+      act_all_serves_other other (act g pass state command) more done last replies differ (act_serves_other other state command done last replies differ was)
 
   -- a command leaves the session's reader
   act_reader : (state : StoreState × Seat) (command : Command) → (act g pass state command).1.reader ≡ state.1.reader

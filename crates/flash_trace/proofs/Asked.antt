@@ -17,7 +17,7 @@ use Rattle.flash_entry.specs.declared.entry.Entry.TheVariants as entries
 use Rattle.flash_machine.specs.Cache.{Cache}
 use Rattle.flash_machine.specs.Looking.{residence_of}
 use Rattle.flash_core.specs.Store.{Desk, Call}
-use Rattle.flash_core.specs.Calls.{is_dead_at, sweep, store_call, look_call}
+use Rattle.flash_core.specs.Calls.{is_expired_at, sweep, store_call, look_call}
 use Rattle.flash_trace.specs.Answers.{entry_ask}
 use Rattle.flash_core.proofs.News.{all_behind}
 
@@ -33,7 +33,7 @@ module _ (c : Cache) (desk : Desk) (id : Id) where
   -- a sweep records none
   swept_asked : (key : List ℕ) (ask : Ask) → AreOf id ask (sweep c desk key).entries
   swept_asked key ask =
-      cond_both (is_dead_at c (finite.get c.items key)) _ _ (λ (call : Call _). AreOf id ask call.entries) (λ dead. ((λ step is. absurd (cc is)), tt)) (λ alive. tt)
+      cond_both (is_expired_at c (finite.get c.items key)) _ _ (λ (call : Call _). AreOf id ask call.entries) (λ dead. ((λ step is. absurd (cc is)), tt)) (λ alive. tt)
 
   -- an entry of this step with this ask
   own_asked : (ask : Ask) (e : Entry) → entry_ask e ≡ Some (id, ask) → IsOf id ask e

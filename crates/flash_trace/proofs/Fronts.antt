@@ -9,7 +9,7 @@ use Rattle.flash_core.specs.Calls.{clock_call}
 use Rattle.flash_trace.specs.declared.command.Command.{Command}
 use Rattle.flash_trace.specs.declared.command.Command.TheVariants.{Get, Store, Refused}
 use Rattle.flash_trace.specs.Fronts.{GoesOnFrom, EachFrontMakesAFront}
-use Rattle.flash_trace.specs.Playing.{Seat, StoreState, Play, first_play, act, act_all, fed, play_from, play_step, seat_at, with_line, with_seat}
+use Rattle.flash_trace.specs.Playing.{Seat, StoreState, Play, first_play, act, act_all, seat_after_input, play_from, play_step, seat_at, with_line, with_seat}
 use Rattle.flash_trace.specs.Steps.{Step, Clock, Say, Run}
 use Rattle.flash_trace.proofs.Seating.{kept_clock}
 
@@ -40,7 +40,7 @@ module _ (g : Geometry) where
       (record { more = (clock_call p.kept.cache p.kept.desk reading).entries; parts = refl })
   step_goes_on p line (Say session bytes) =
       let seat = seat_at p session in
-      cond_both seat.closed (with_line (with_seat p session seat) (codes "closed") line) (with_seat p session (fed g seat bytes)) (λ (q : Play). GoesOnFrom p.kept.journal q.kept.journal)
+      cond_both seat.closed (with_line (with_seat p session seat) (codes "closed") line) (with_seat p session (seat_after_input g seat bytes)) (λ (q : Play). GoesOnFrom p.kept.journal q.kept.journal)
       (λ closed. same_front p.kept.journal) (λ reads. same_front p.kept.journal)
   step_goes_on p line (Run session) =
       let seat = seat_at p session in act_all_goes_on session (p.kept, record seat { waiting = [] }) seat.waiting

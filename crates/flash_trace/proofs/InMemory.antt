@@ -19,7 +19,7 @@ use Rattle.flash_machine.specs.Storing.{stored_item, store_outcome, refusal}
 use Rattle.flash_machine.specs.Looking.{look_next, fetched_item}
 use Rattle.flash_machine.specs.Steps.{clock_next}
 use Rattle.flash_core.specs.Store.{Desk, Call}
-use Rattle.flash_core.specs.Calls.{is_dead_at, sweep, store_call, look_call, clock_call}
+use Rattle.flash_core.specs.Calls.{is_expired_at, sweep, store_call, look_call, clock_call}
 
 -- an item, where there is one, has no label
 abbrev pub HasNoLabel : Option Item → Type 0
@@ -52,7 +52,7 @@ inserted_here m key item none here q =
 -- a sweep leaves them so
 swept_here : (c : Cache) (desk : Desk) (key : List ℕ) → AreHere c.items → AreHere (sweep c desk key).cache.items
 swept_here c desk key here =
-    cond_both (is_dead_at c (finite.get c.items key)) _ _ (λ (call : Call _). AreHere call.cache.items) (λ dead. removed_here c.items key here) (λ alive. here)
+    cond_both (is_expired_at c (finite.get c.items key)) _ _ (λ (call : Call _). AreHere call.cache.items) (λ dead. removed_here c.items key here) (λ alive. here)
 
 -- the item that a store makes
 stored_label : (c : Cache) (put : Put) (mode : Mode) (live : Option Item) → (stored_item c put mode live).label ≡ None
@@ -81,7 +81,7 @@ looked_here c key look (Some item) none here = inserted_here c.items key (fetche
 pub look_here : (c : Cache) (desk : Desk) (id : Id) (key : List ℕ) (look : Look) → AreHere c.items → AreHere (look_call c desk id key look).cache.items
 look_here c desk id key look here =
     let s = sweep c desk key in
-    let swept = swept_here c desk key here in looked_here s.cache key look (finite.get s.cache.items key) (swept key) swept
+    let sweep_step = swept_here c desk key here in looked_here s.cache key look (finite.get s.cache.items key) (sweep_step key) sweep_step
 
 -- a reading of the clock leaves the items
 moved_here : (c : Cache) (moment : ℕ) → AreHere c.items → AreHere (clock_next c moment).items

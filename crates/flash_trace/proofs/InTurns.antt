@@ -2,7 +2,7 @@
 use Rattle.std.proofs.Common.{◌≡◌, ℕ, Bool, true, false, List, [], ◌∷◌, ◌++◌, if◌then◌else◌, refl, ◌∙◌, ap, sym, append_assoc}
 use Rattle.std.specs.Prelude.{◌||◌}
 use Rattle.std.proofs.lemmas.List.{append-nil}
-use Rattle.flash_trace.specs.Answers.{bytes_for, bytes_in_turns, is_turn, has_turn}
+use Rattle.flash_trace.specs.Answers.{bytes_for, bytes_before_last_run, is_run, has_run}
 use Rattle.flash_trace.specs.Steps.{Step}
 
 -- the bytes before a session's last turn after these steps, where it was given `given` before them, of
@@ -10,7 +10,7 @@ use Rattle.flash_trace.specs.Steps.{Step}
 abbrev pub turned_behind : ℕ → List ℕ → List ℕ → List Step → List ℕ
 turned_behind session given turned [] = turned
 turned_behind session given turned (step ∷ steps) =
-    turned_behind session (given ++ bytes_for session step) (if is_turn session step then given else turned) steps
+    turned_behind session (given ++ bytes_for session step) (if is_run session step then given else turned) steps
 
 -- steps without a turn give no bytes to one
 behind_none : (first more : Bool) (bytes rest : List ℕ) → first || more ≡ false → (more ≡ false → rest ≡ []) → (if more then bytes else []) ++ rest ≡ []
@@ -32,18 +32,18 @@ from_first true rest tail = refl
 from_first false rest tail = sym (tail refl)
 
 module _ (session : ℕ) where
-  none_turned : (steps : List Step) → has_turn session steps ≡ false → bytes_in_turns session steps ≡ []
+  none_turned : (steps : List Step) → has_run session steps ≡ false → bytes_before_last_run session steps ≡ []
   none_turned [] none = refl
   none_turned (step ∷ steps) none =
-      behind_none (is_turn session step) (has_turn session steps) (bytes_for session step) (bytes_in_turns session steps) none (none_turned steps)
+      behind_none (is_run session step) (has_run session steps) (bytes_for session step) (bytes_before_last_run session steps) none (none_turned steps)
 
-  turned_is : (given turned : List ℕ) (steps : List Step) → turned_behind session given turned steps ≡ (if has_turn session steps then given ++ bytes_in_turns session steps else turned)
+  turned_is : (given turned : List ℕ) (steps : List Step) → turned_behind session given turned steps ≡ (if has_run session steps then given ++ bytes_before_last_run session steps else turned)
   turned_is given turned [] = refl
   turned_is given turned (step ∷ steps) =
       let bytes = bytes_for session step in
-      turned_is (given ++ bytes) (if is_turn session step then given else turned) steps
-      ∙ by_turns (is_turn session step) (has_turn session steps) given turned bytes (bytes_in_turns session steps) (none_turned steps)
+      turned_is (given ++ bytes) (if is_run session step then given else turned) steps
+      ∙ by_turns (is_run session step) (has_run session steps) given turned bytes (bytes_before_last_run session steps) (none_turned steps)
 
   -- the steps of a whole script
-  pub turned_from_first : (steps : List Step) → turned_behind session [] [] steps ≡ bytes_in_turns session steps
-  turned_from_first steps = turned_is [] [] steps ∙ from_first (has_turn session steps) (bytes_in_turns session steps) (none_turned steps)
+  pub turned_from_first : (steps : List Step) → turned_behind session [] [] steps ≡ bytes_before_last_run session steps
+  turned_from_first steps = turned_is [] [] steps ∙ from_first (has_run session steps) (bytes_before_last_run session steps) (none_turned steps)

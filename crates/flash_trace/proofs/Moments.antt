@@ -16,7 +16,7 @@ use Rattle.flash_machine.specs.Moments.{is_reached}
 use Rattle.flash_machine.specs.Steps.{clock_next}
 use Rattle.flash_machine.specs.Storing.{refusal, stored_item, store_outcome}
 use Rattle.flash_core.specs.Store.{Desk, Call}
-use Rattle.flash_core.specs.Calls.{is_dead_at, sweep, store_call, look_call, clock_call}
+use Rattle.flash_core.specs.Calls.{is_expired_at, sweep, store_call, look_call, clock_call}
 use Rattle.flash_trace.specs.declared.command.Command.{Command}
 use Rattle.flash_trace.specs.declared.command.Command.TheVariants.{Get, Store, Refused}
 use Rattle.flash_trace.proofs.Numbered.{number_of, plainly}
@@ -24,7 +24,7 @@ use Rattle.flash_trace.specs.Playing.{Seat, StoreState, act, act_all}
 
 -- a sweep leaves the moment
 swept_moment : (c : Cache) (desk : Desk) (key : List ℕ) → (sweep c desk key).cache.now ≡ c.now
-swept_moment c desk key = cond_both (is_dead_at c (finite.get c.items key)) _ _ (λ (call : Call _). call.cache.now ≡ c.now) (λ dead. refl) (λ alive. refl)
+swept_moment c desk key = cond_both (is_expired_at c (finite.get c.items key)) _ _ (λ (call : Call _). call.cache.now ≡ c.now) (λ dead. refl) (λ alive. refl)
 
 -- so does a store, refused or not
 stored_moment : (refusal : Option Stored) (c : Cache) (key : List ℕ) (item : Item) → (store_outcome refusal c key item).1.now ≡ c.now

@@ -17,7 +17,7 @@ use Rattle.flash_core.proofs.News.{new_behind}
 use Rattle.flash_trace.specs.declared.command.Command.{Command}
 use Rattle.flash_trace.specs.declared.command.Command.TheVariants.{Get, Store, Refused}
 use Rattle.flash_trace.specs.Answers.{done_ask}
-use Rattle.flash_trace.specs.Playing.{Seat, StoreState, Play, first_play, after_call, act, act_all, behind_turn, seat_at, with_seat, with_line, fed, run, clock, play_step}
+use Rattle.flash_trace.specs.Playing.{Seat, StoreState, Play, first_play, after_call, act, act_all, seat_after_run, seat_at, with_seat, with_line, seat_after_input, run, clock, play_step}
 use Rattle.flash_trace.specs.Steps.{Step, Clock, Say, Run, IsSession, IsSeated}
 use Rattle.flash_trace.specs.Seats.{next_id, IsNumbered}
 use Rattle.flash_trace.proofs.Asked.{IsOf, AreOf, store_asked, look_asked}
@@ -126,14 +126,14 @@ step_numbered g p line (Clock reading) sixteen seated numbered = clock_numbered 
 step_numbered g p line (Say session bytes) sixteen seated numbered =
     let seat = seat_at p session in
     let closed = with_line (with_seat p session seat) (codes "closed") line in
-    let reads = with_seat p session (fed g seat bytes) in
+    let reads = with_seat p session (seat_after_input g seat bytes) in
     cond_both seat.closed closed reads IsNumbered
     (λ is. numbered_with p closed session seat sixteen seated refl (numbered session seated) (λ id other new. new) numbered)
-    (λ is. numbered_with p reads session (fed g seat bytes) sixteen seated refl (numbered session seated) (λ id other new. new) numbered)
+    (λ is. numbered_with p reads session (seat_after_input g seat bytes) sixteen seated refl (numbered session seated) (λ id other new. new) numbered)
 step_numbered g p line (Run session) sixteen seated numbered =
     let seat = seat_at p session in
     let state : StoreState × Seat = (p.kept, record seat { waiting = [] }) in
-    numbered_with p (run g p session) session (behind_turn (act_all g session state seat.waiting).1) sixteen seated refl (act_all_new g session state seat.waiting (numbered session seated))
+    numbered_with p (run g p session) session (seat_after_run (act_all g session state seat.waiting).1) sixteen seated refl (act_all_new g session state seat.waiting (numbered session seated))
     (λ id other new. act_all_other g session id state seat.waiting other new) numbered
 
 -- before the first step

@@ -1,4 +1,5 @@
 -- The outcome of a step, read off a journal that goes on.
+use Rattle.std.specs.Option.{option_or}
 use Rattle.std.proofs.Common.{◌≡◌, ℕ, true, false, List, [], ◌∷◌, ◌++◌, Option, None, Some, refl, sym, ◌∙◌, ap, append_assoc, arith}
 use Rattle.std.specs.Prelude.{IsSome}
 use Rattle.std.specs.List.{AllByRecursion}
@@ -14,16 +15,16 @@ use Rattle.flash_machine.specs.Cache.{Cache, first_cache}
 use Rattle.flash_machine.specs.Live.{live_item}
 use Rattle.flash_machine.specs.Steps.{next, cache_from, cache_of}
 use Rattle.flash_machine.specs.Legal.{IsNew, IsEarlier, step_id}
-use Rattle.flash_trace.specs.Answers.{same_id, entry_outcome, first_outcome, outcome_from, done_outcome, found_outcome, IsKnown}
+use Rattle.flash_trace.specs.Answers.{same_id, entry_outcome, outcome_from, done_outcome, found_outcome, HasEntry}
 use Rattle.flash_trace.proofs.Lists.{all_map}
 
 -- the first of three outcomes
-first-assoc : (a b c : Option Told) → first_outcome a (first_outcome b c) ≡ first_outcome (first_outcome a b) c
+first-assoc : (a b c : Option Told) → option_or a (option_or b c) ≡ option_or (option_or a b) c
 first-assoc None b c = refl
 first-assoc (Some told) b c = refl
 
 -- an outcome that is there stays
-first_stays : (a b : Option Told) → IsSome a → first_outcome a b ≡ a
+first_stays : (a b : Option Told) → IsSome a → option_or a b ≡ a
 first_stays None b is = absurd (cc is)
 first_stays (Some told) b is = refl
 
@@ -44,14 +45,14 @@ earlier_is_other id (Some step) earlier = grind (arith, nat_tests, earlier)
 module _ (g : Geometry) (id : Id) where
   -- the outcome from entries with more after them
   pub outcome_from-append : (h : List Entry) (c : Cache) (xs ys : List Entry)
-      → outcome_from g h c id (xs ++ ys) ≡ first_outcome (outcome_from g h c id xs) (outcome_from g (h ++ xs) (cache_from g h c xs) id ys)
+      → outcome_from g h c id (xs ++ ys) ≡ option_or (outcome_from g h c id xs) (outcome_from g (h ++ xs) (cache_from g h c xs) id ys)
   outcome_from-append h c [] ys = ap (λ (j : List Entry). outcome_from g j c id ys) (sym (append-nil h))
   outcome_from-append h c (x ∷ xs) ys =
       let j = h ++ x ∷ [] in
       let d = next g h c x in
       let front = outcome_from g j d id xs in
-      ap (first_outcome (entry_outcome h c id x))
-      (outcome_from-append j d xs ys ∙ ap (λ (k : List Entry). first_outcome front (outcome_from g k (cache_from g j d xs) id ys)) (append_assoc h (x ∷ []) xs))
+      ap (option_or (entry_outcome h c id x))
+      (outcome_from-append j d xs ys ∙ ap (λ (k : List Entry). option_or front (outcome_from g k (cache_from g j d xs) id ys)) (append_assoc h (x ∷ []) xs))
       ∙ first-assoc (entry_outcome h c id x) front (outcome_from g (h ++ x ∷ xs) (cache_from g j d xs) id ys)
 
   -- an entry of another step gives it no outcome
@@ -63,7 +64,7 @@ module _ (g : Geometry) (id : Id) where
   -- entries of other steps give it none
   pub no_outcome : (h : List Entry) (c : Cache) (es : List Entry) → AllByRecursion (λ e. IsOther id (step_id e)) es → outcome_from g h c id es ≡ None
   no_outcome h c [] others = refl
-  no_outcome h c (e ∷ es) others = ap (λ (o : Option Told). first_outcome o (outcome_from g (h ++ e ∷ []) (next g h c e) id es)) (entry_none h c e others.0) ∙ no_outcome (h ++ e ∷ []) (next g h c e) es others.1
+  no_outcome h c (e ∷ es) others = ap (λ (o : Option Told). option_or o (outcome_from g (h ++ e ∷ []) (next g h c e) id es)) (entry_none h c e others.0) ∙ no_outcome (h ++ e ∷ []) (next g h c e) es others.1
 
   -- nor has a step whose number is new
   pub new_has_none : (h : List Entry) → IsNew h id → outcome_from g [] first_cache id h ≡ None
@@ -71,10 +72,10 @@ module _ (g : Geometry) (id : Id) where
 
   -- where it is new, its outcome is what further entries give it
   pub outcome_behind : (h es : List Entry) → IsNew h id → outcome_from g [] first_cache id (h ++ es) ≡ outcome_from g h (cache_of g h) id es
-  outcome_behind h es new = outcome_from-append [] first_cache h es ∙ ap (λ (o : Option Told). first_outcome o (outcome_from g h (cache_of g h) id es)) (new_has_none h new)
+  outcome_behind h es new = outcome_from-append [] first_cache h es ∙ ap (λ (o : Option Told). option_or o (outcome_from g h (cache_of g h) id es)) (new_has_none h new)
 
 -- further entries don't change it
-pub outcome_stays : (g : Geometry) (pass seq : ℕ) (h es : List Entry) → IsKnown g pass seq h → outcome_from g [] first_cache (record { pass = pass; seq = seq }) (h ++ es) ≡ outcome_from g [] first_cache (record { pass = pass; seq = seq }) h
+pub outcome_stays : (g : Geometry) (pass seq : ℕ) (h es : List Entry) → HasEntry g pass seq h → outcome_from g [] first_cache (record { pass = pass; seq = seq }) (h ++ es) ≡ outcome_from g [] first_cache (record { pass = pass; seq = seq }) h
 outcome_stays g pass seq h es known =
     let id : Id = record { pass = pass; seq = seq } in
     outcome_from-append g id [] first_cache h es ∙ first_stays (outcome_from g [] first_cache id h) (outcome_from g h (cache_of g h) id es) known

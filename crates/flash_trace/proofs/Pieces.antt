@@ -2,7 +2,7 @@
 use Rattle.std.proofs.Common.{◌≡◌, ℕ, true, List, [], ◌++◌, refl, sym, ◌∙◌, ap}
 use Rattle.std.proofs.lemmas.List.{append-nil}
 use Rattle.flash_trace.specs.declared.command.Command.{Command}
-use Rattle.flash_trace.specs.Commands.{Reader, Read, InLine, Ended, read_from, commands_of, label_has_ended}
+use Rattle.flash_trace.specs.Commands.{Reader, Read, InLine, Ended, read_from, commands_of, is_at_end}
 use Rattle.flash_trace.proofs.Feeding.{read-append, ended}
 
 module _ (item_max : ℕ) where
@@ -29,7 +29,7 @@ module _ (item_max : ℕ) where
       let after = read_more bytes more commands Ended read in
       record { commands_are = sym same ∙ after.commands_are; reader_is = sym (ap (λ (r : Read). r.1) none) ∙ after.reader_is }
 
-  pub read_at_end : (bytes more : List ℕ) (commands : List Command) (reader : Reader) → label_has_ended reader ≡ true → IsRead bytes commands reader → IsRead (bytes ++ more) commands reader
+  pub read_at_end : (bytes more : List ℕ) (commands : List Command) (reader : Reader) → is_at_end reader ≡ true → IsRead bytes commands reader → IsRead (bytes ++ more) commands reader
   read_at_end bytes more commands Ended is read = read_ended bytes more commands read
   read_at_end bytes more commands _ is read = absurd (cc is)
 

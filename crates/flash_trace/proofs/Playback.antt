@@ -5,7 +5,7 @@ use Rattle.flash_machine.specs.Cache.{Cache, first_cache}
 use Rattle.flash_core.specs.Store.{Store, Desk}
 use Rattle.flash_trace.specs.declared.play.Seat as code
 use Rattle.flash_trace.specs.declared.play.Play as code_play
-use Rattle.flash_trace.specs.Output.{journal_if, played_text, output}
+use Rattle.flash_trace.specs.Output.{journal_if, play_text, output}
 use Rattle.flash_trace.specs.Playing.{Play, first_play, play_of}
 use Rattle.flash_trace.specs.Scripts.{Script}
 use Rattle.flash_trace.specs.Seats.{entries_of, seat_of, seats_of, state_of}
@@ -25,12 +25,12 @@ first_state s p told cache desk printed seats =
 
 -- what the code prints of a state is the output of the script that leads to it
 pub output_is : (script : Script) (with_journal : Bool) (s : Store) (p : code_play.Play) (journal : List Entry) (count : ℕ) (out : List ℕ)
-    → out ≡ played_text p.printed.items (seats_of p) (journal_if with_journal script.head journal) count
+    → out ≡ play_text p.printed.items (seats_of p) (journal_if with_journal script.first_line journal) count
     → journal ≡ entries_of s.told → count ≡ length script.steps → state_of s p ≡ play_of script.geometry script.steps → out ≡ output script with_journal
 output_is script with_journal s p journal count out printed told counted state =
-    let text : Play → ℕ → List ℕ = λ q n. played_text q.printed q.seats (journal_if with_journal script.head q.kept.journal) n in
+    let text : Play → ℕ → List ℕ = λ q n. play_text q.printed q.seats (journal_if with_journal script.first_line q.kept.journal) n in
     printed
-    ∙ ap (λ (j : List Entry). played_text p.printed.items (seats_of p) (journal_if with_journal script.head j) count) told
+    ∙ ap (λ (j : List Entry). play_text p.printed.items (seats_of p) (journal_if with_journal script.first_line j) count) told
     ∙ ap (λ (q : Play). text q count) state
     ∙ ap (text (play_of script.geometry script.steps)) counted
 

@@ -1,4 +1,5 @@
 -- What the entries of a call say of its step.
+use Rattle.std.specs.Option.{option_or}
 use Rattle.std.proofs.Common.{◌≡◌, Bool, true, false, ℕ, List, [], ◌∷◌, ◌++◌, Option, None, Some, if◌then◌else◌, refl, ◌∙◌, ap}
 use Rattle.std.specs.FinMap as finite
 use Rattle.std.proofs.lemmas.Bool.{cond_both}
@@ -21,10 +22,10 @@ use Rattle.flash_machine.specs.Live.{live_item}
 use Rattle.flash_machine.specs.Looking.{head_of_item, residence_of}
 use Rattle.flash_machine.specs.Steps.{cache_from}
 use Rattle.flash_core.specs.Store.{Desk, Call}
-use Rattle.flash_core.specs.Calls.{is_dead_at, sweep, found_of, store_call, look_call}
+use Rattle.flash_core.specs.Calls.{is_expired_at, sweep, found_of, store_call, look_call}
 use Rattle.flash_core.specs.declared.found.Found.TheVariants as found
 use Rattle.flash_core.proofs.Sweeps.{IsHere, sweeps}
-use Rattle.flash_trace.specs.Answers.{same_id, found_outcome, first_outcome, outcome_from}
+use Rattle.flash_trace.specs.Answers.{same_id, found_outcome, outcome_from}
 use Rattle.flash_trace.specs.Playing.{outcome_of}
 use Rattle.flash_trace.proofs.Asked.{AreOf, store_asked, look_asked}
 use Rattle.flash_trace.proofs.Outcomes.{same_self, outcome_from-append}
@@ -37,7 +38,7 @@ pub record Records (g : Geometry) (h : List Entry) (c : Cache) (id : Id) (ask : 
 -- a sweep gives none
 swept_outcome : (g : Geometry) (h : List Entry) (c : Cache) (desk : Desk) (key : List ℕ) (id : Id) → outcome_from g h c id (sweep c desk key).entries ≡ None
 swept_outcome g h c desk key id =
-    cond_both (is_dead_at c (finite.get c.items key)) _ _ (λ (call : Call _). outcome_from g h c id call.entries ≡ None) (λ dead. refl) (λ alive. refl)
+    cond_both (is_expired_at c (finite.get c.items key)) _ _ (λ (call : Call _). outcome_from g h c id call.entries ≡ None) (λ dead. refl) (λ alive. refl)
 
 module _ (g : Geometry) (h : List Entry) (c : Cache) (desk : Desk) (id : Id) where
   -- the outcome after a sweep
@@ -45,13 +46,13 @@ module _ (g : Geometry) (h : List Entry) (c : Cache) (desk : Desk) (id : Id) whe
       → outcome_from g h c id ((sweep c desk key).entries ++ e ∷ [])
       ≡ outcome_from g (h ++ (sweep c desk key).entries) (cache_from g h c (sweep c desk key).entries) id (e ∷ [])
   behind_sweep key e =
-      let swept = (sweep c desk key).entries in
-      outcome_from-append g id h c swept (e ∷ [])
-      ∙ ap (λ (o : Option Told). first_outcome o (outcome_from g (h ++ swept) (cache_from g h c swept) id (e ∷ []))) (swept_outcome g h c desk key id)
+      let sweep_step = (sweep c desk key).entries in
+      outcome_from-append g id h c sweep_step (e ∷ [])
+      ∙ ap (λ (o : Option Told). option_or o (outcome_from g (h ++ sweep_step) (cache_from g h c sweep_step) id (e ∷ []))) (swept_outcome g h c desk key id)
 
   -- an entry of the step itself gives it its outcome
-  own_outcome : (outcome : Told) → first_outcome (if same_id id id then Some outcome else None) None ≡ Some outcome
-  own_outcome outcome = ap (λ b. first_outcome (if b then Some outcome else None) None) (same_self id)
+  own_outcome : (outcome : Told) → option_or (if same_id id id then Some outcome else None) None ≡ Some outcome
+  own_outcome outcome = ap (λ b. option_or (if b then Some outcome else None) None) (same_self id)
 
   -- a store
   pub store_records : (put : Put) → Records g h c id (asks.Store put) (told.Stored (store_call g c desk id put).answer) (store_call g c desk id put).entries
@@ -80,12 +81,12 @@ module _ (g : Geometry) (h : List Entry) (c : Cache) (desk : Desk) (id : Id) whe
       → Records g h c id (asks.Look key look) (told.Found (outcome_of (look_call c desk id key look).answer)) (look_call c desk id key look).entries
   look_records key look here =
       let s = sweep c desk key in
-      let swept = sweeps g h c desk key here in
+      let sweep_step = sweeps g h c desk key here in
       let j = h ++ s.entries in
       let live = finite.get s.cache.items key in
       let own = entries.Looked id key look (residence_of live) in
       let at : found_outcome (cache_from g h c s.entries) look (live_item j (cache_from g h c s.entries) key) ≡ found_outcome s.cache look live =
-      ap (λ (d : Cache). found_outcome d look (live_item j d key)) swept.goes.makes ∙ ap (found_outcome s.cache look) (swept.live j) in
+      ap (λ (d : Cache). found_outcome d look (live_item j d key)) sweep_step.goes.makes ∙ ap (found_outcome s.cache look) (sweep_step.live j) in
       record {
         outcome = behind_sweep key own ∙ own_outcome _ ∙ ap Some (at ∙ found_told s.cache look live);
         asked = look_asked c desk id key look;

@@ -10,9 +10,9 @@ use Rattle.flash_machine.specs.Cache.{Cache}
 use Rattle.flash_core.specs.Store.{Desk, Call}
 use Rattle.flash_core.specs.Calls.{clock_call}
 use Rattle.flash_trace.specs.declared.command.Command.{Command}
-use Rattle.flash_trace.specs.Answers.{asks_of, bytes_for, bytes_in_turns, bytes_to, is_turn, moment_after, moment_with, IsRight, EveryPlayIsRight}
+use Rattle.flash_trace.specs.Answers.{asks_of, bytes_for, bytes_before_last_run, bytes_to, is_run, moment_after, moment_with, IsRight, EveryPlayIsRight}
 use Rattle.flash_trace.specs.Commands.{commands_of}
-use Rattle.flash_trace.specs.Playing.{Seat, StoreState, Play, first_play, after_call, act_all, seat_at, with_seat, with_line, fed, say, behind_turn, run, clock, play_step, play_from, play_of}
+use Rattle.flash_trace.specs.Playing.{Seat, StoreState, Play, first_play, after_call, act_all, seat_at, with_seat, with_line, seat_after_input, say, seat_after_run, run, clock, play_step, play_from, play_of}
 use Rattle.flash_trace.specs.Seats.{IsNumbered}
 use Rattle.flash_trace.specs.Steps.{Step, Clock, Say, Run, IsSession, IsSeated, AreSeated}
 use Rattle.flash_trace.proofs.Acted.{IsKept, clock_kept, Serves, act_all_serves, act_all_serves_other, act_all_reader, act_all_waiting}
@@ -72,7 +72,7 @@ module _ (g : Geometry) where
         done = up.done;
         done_are = up.done_are;
         read = up.read;
-        served = served_behind g session p.kept.journal call.entries up.done seat.last seat.said (clock_keeps session (asks_of up.done) p.kept.cache p.kept.desk reading) up.served;
+        served = served_behind g session p.kept.journal call.entries up.done seat.last seat.replies (clock_keeps session (asks_of up.done) p.kept.cache p.kept.desk reading) up.served;
         ended = up.ended;
       } in
       subst (λ (k : StoreState). IsUpTo g session (given session) (turned session) k.journal (seat_at (clock p line reading) session)) (sym (kept_clock p line reading))
@@ -110,7 +110,7 @@ module _ (g : Geometry) where
 
     -- where it reads them
     abbrev reads : Play
-    reads = with_seat p session (fed g (seat_at p session) bytes)
+    reads = with_seat p session (seat_after_input g (seat_at p session) bytes)
 
     -- both ways each session is up to its bytes
     closed_holds : (seat_at p session).closed ≡ true → (other : ℕ) → IsSession other → IsUpTo g other (after_say other) (turned other) closed.kept.journal (seat_at closed other)
@@ -121,7 +121,7 @@ module _ (g : Geometry) where
     reads_holds : (seat_at p session).closed ≡ false → (other : ℕ) → IsSession other → IsUpTo g other (after_say other) (turned other) reads.kept.journal (seat_at reads other)
     reads_holds is_open =
         let seat = seat_at p session in
-        each_with p reads session (fed g seat bytes) after_say turned was.sixteen is refl (say_own (fed g seat bytes) (fed_up g session (given session) bytes (turned session) p.kept.journal seat is_open (was.each session is))) say_others
+        each_with p reads session (seat_after_input g seat bytes) after_say turned was.sixteen is refl (say_own (seat_after_input g seat bytes) (fed_up g session (given session) bytes (turned session) p.kept.journal seat is_open (was.each session is))) say_others
 
     say_holds : Holds g (say g p line session bytes) now after_say turned
     say_holds = record {
@@ -144,7 +144,7 @@ module _ (g : Geometry) where
 
     -- what each session was given before its last turn
     abbrev after_turn : ℕ → List ℕ
-    after_turn other = if is_turn other (Run session) then given other else turned other
+    after_turn other = if is_run other (Run session) then given other else turned other
 
     -- its commands are done
     run_serves : Serves g session after ((was.each session is).done ++ (seat_at p session).waiting)
@@ -153,7 +153,7 @@ module _ (g : Geometry) where
         act_all_serves g session before up.done (seat_at p session).waiting (record { kept = was.kept; new = was.numbered session is; served = up.served })
 
     -- it is up to its bytes, and nothing waits
-    run_own : IsUpTo g session (given session) (after_turn session) after.0.journal (behind_turn after.1)
+    run_own : IsUpTo g session (given session) (after_turn session) after.0.journal (seat_after_run after.1)
     run_own =
         let up = was.each session is in
         let yes : nat_eq session session ≡ true = grind (arith, nat_tests) in
@@ -179,7 +179,7 @@ module _ (g : Geometry) where
           done = up.done;
           done_are = up.done_are ∙ ap (λ (l : List ℕ). (commands_of g.item_max l).0) (sym turns);
           read = up.read;
-          served = act_all_serves_other g session other before (seat_at p session).waiting up.done seat.last seat.said (λ same. differ (sym same)) up.served;
+          served = act_all_serves_other g session other before (seat_at p session).waiting up.done seat.last seat.replies (λ same. differ (sym same)) up.served;
           ended = up.ended;
         }
 
@@ -190,12 +190,12 @@ module _ (g : Geometry) where
       sixteen = step_seats g p line (Run session) was.sixteen;
       numbered = step_numbered g p line (Run session) was.sixteen is was.numbered;
       each = λ other is_other. given_none g other (given other) [] (after_turn other) after.0.journal (seat_at (run g p session) other) refl
-          (each_with p (run g p session) session (behind_turn after.1) given after_turn was.sixteen is refl run_own run_others other is_other);
+          (each_with p (run g p session) session (seat_after_run after.1) given after_turn was.sixteen is refl run_own run_others other is_other);
     }
 
   -- each step keeps all of it
   step_holds : (p : Play) (line : ℕ) (step : Step) (now : ℕ) (given turned : ℕ → List ℕ) → IsSeated step → Holds g p now given turned
-      → Holds g (play_step g p line step) (moment_with now step) (λ session. given session ++ bytes_for session step) (λ session. if is_turn session step then given session else turned session)
+      → Holds g (play_step g p line step) (moment_with now step) (λ session. given session ++ bytes_for session step) (λ session. if is_run session step then given session else turned session)
   step_holds p line (Clock reading) now given turned seated was = clock_holds p line reading now given turned was
   step_holds p line (Say session bytes) now given turned seated was = say_holds p line session bytes now given turned was seated
   step_holds p line (Run session) now given turned seated was = run_holds p line session now given turned was seated
@@ -205,7 +205,7 @@ module _ (g : Geometry) where
       → Holds g (play_from g p line steps) (moment_after now steps) (λ session. given session ++ bytes_to session steps) (λ session. turned_behind session (given session) (turned session) steps)
   steps_hold p line [] now given turned seated was = subst (λ (given : ℕ → List ℕ). Holds g p now given turned) (λ j session. sym (append-nil (given session)) j) was
   steps_hold p line (step ∷ steps) now given turned seated was =
-      let more = λ (session : ℕ). if is_turn session step then given session else turned session in
+      let more = λ (session : ℕ). if is_run session step then given session else turned session in
       let after = steps_hold (play_step g p line step) (line + 1) steps (moment_with now step) (λ session. given session ++ bytes_for session step) more seated.1 (step_holds p line step now given turned seated.0 was) in
       let with_more = λ (session : ℕ). turned_behind session (given session) (turned session) (step ∷ steps) in
       subst (λ (all : ℕ → List ℕ). Holds g (play_from g p line (step ∷ steps)) (moment_after now (step ∷ steps)) all with_more) (λ j session. append_assoc (given session) (bytes_for session step) (bytes_to session steps) j) after
@@ -229,7 +229,7 @@ module _ (g : Geometry) where
         answered = λ session is.
             let journal = (play_of g steps).kept.journal in
             let seat = seat_at (play_of g steps) session in
-            is_answered g session (bytes_to session steps) (bytes_in_turns session steps) journal seat
+            is_answered g session (bytes_to session steps) (bytes_before_last_run session steps) journal seat
             (subst (λ (turns : List ℕ). IsUpTo g session (bytes_to session steps) turns journal seat) (turned_from_first session steps) (all.each session is));
       }
 

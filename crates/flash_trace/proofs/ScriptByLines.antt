@@ -46,13 +46,13 @@ first_bad bytes good why small few has =
     let later = steps_fault 2 (good ++ has.bad ∷ has.more) rest in
     let same : 2 + length good ≡ length good + 2 = omega arith in
     by_lines bytes small ∙ ap (λ (whole : List (List ℕ)). lines_fault (record { whole = whole; rest = rest })) has.parts
-    ∙ pass_line 1 (geometry_of has.head) later has.geometry ∙ bad_behind 2 good has.bad has.more rest why (omega arith) has.steps has.fault
+    ∙ pass_line 1 (geometry_of has.first_line) later has.geometry ∙ bad_behind 2 good has.bad has.more rest why (omega arith) has.steps has.fault
     ∙ ap (λ n. Some (record { line = n; why = why })) same
 
 -- a bad first line
-pub bad_head : (bytes head : List ℕ) (more : List (List ℕ)) (why : Why) → length bytes ≤ 16777216 → (lines_of bytes).whole ≡ head ∷ more → geometry_of head ≡ Err why
+pub bad_first_line : (bytes first_line : List ℕ) (more : List (List ℕ)) (why : Why) → length bytes ≤ 16777216 → (lines_of bytes).whole ≡ first_line ∷ more → geometry_of first_line ≡ Err why
     → fault_of bytes ≡ Some (record { line = 1; why = why })
-bad_head bytes head more why small parts bad =
+bad_first_line bytes first_line more why small parts bad =
     let rest = (lines_of bytes).rest in
     by_lines bytes small ∙ ap (λ (whole : List (List ℕ)). lines_fault (record { whole = whole; rest = rest })) parts
     ∙ ap (λ (r : Result Geometry Why). fault_or 1 r (steps_fault 2 more rest)) bad
@@ -78,13 +78,13 @@ short_line bytes good small few has =
     let later = steps_fault 2 good (has.first ∷ has.more) in
     let same : 2 + length good ≡ length good + 2 = omega arith in
     by_lines bytes small ∙ ap (λ (whole : List (List ℕ)). lines_fault (record { whole = whole; rest = (lines_of bytes).rest })) has.parts
-    ∙ ap (λ (rest : List ℕ). lines_fault (record { whole = has.head ∷ good; rest = rest })) has.open_line
-    ∙ pass_line 1 (geometry_of has.head) later has.geometry ∙ open_behind 2 good has.first has.more (omega arith) has.steps
+    ∙ ap (λ (rest : List ℕ). lines_fault (record { whole = has.first_line ∷ good; rest = rest })) has.open_line
+    ∙ pass_line 1 (geometry_of has.first_line) later has.geometry ∙ open_behind 2 good has.first has.more (omega arith) has.steps
     ∙ ap (λ n. Some (record { line = n; why = Short })) same
 
 -- no line at all
-pub short_head : (bytes : List ℕ) → length bytes ≤ 16777216 → (lines_of bytes).whole ≡ [] → fault_of bytes ≡ Some (record { line = 1; why = Short })
-short_head bytes small none =
+pub short_first_line : (bytes : List ℕ) → length bytes ≤ 16777216 → (lines_of bytes).whole ≡ [] → fault_of bytes ≡ Some (record { line = 1; why = Short })
+short_first_line bytes small none =
     by_lines bytes small ∙ ap (λ (whole : List (List ℕ)). lines_fault (record { whole = whole; rest = (lines_of bytes).rest })) none
 
 -- lines without a fault: nothing is after the last one, and they aren't too many
@@ -126,15 +126,15 @@ each_step [] steps is = let same : [] ≡ steps = cc in ap (λ (l : List Step). 
 each_step (line ∷ more) steps is = each_more (step_of line) (steps_of more) (map step_of more) steps (λ all here. each_step more all here) is
 
 -- a script, by its first line and its steps
-parts_of : (head : List ℕ) (more : List (List ℕ)) (rest : List ℕ) (r : Result Geometry Why) (steps : Option (List Step)) (script : Script) → geometry_of head ≡ r → steps_of more ≡ steps
-    → steps_fault 2 more rest ≡ None → script_of_parts head (result_ok r) steps ≡ Some script → IsOfLines (record { whole = head ∷ more; rest = rest }) script
-parts_of head more rest (Err why) steps script geometry read none is = absurd (cc is)
-parts_of head more rest (Ok g) None script geometry read none is = absurd (cc is)
-parts_of head more rest (Ok g) (Some all) script geometry read none is =
+parts_of : (first_line : List ℕ) (more : List (List ℕ)) (rest : List ℕ) (r : Result Geometry Why) (steps : Option (List Step)) (script : Script) → geometry_of first_line ≡ r → steps_of more ≡ steps
+    → steps_fault 2 more rest ≡ None → script_of_parts first_line (result_ok r) steps ≡ Some script → IsOfLines (record { whole = first_line ∷ more; rest = rest }) script
+parts_of first_line more rest (Err why) steps script geometry read none is = absurd (cc is)
+parts_of first_line more rest (Ok g) None script geometry read none is = absurd (cc is)
+parts_of first_line more rest (Ok g) (Some all) script geometry read none is =
     let whole = whole_lines 2 more rest (omega arith) none in
     let each = each_step more all read in
-    let same : record { geometry = g; head = head ++ 10 ∷ []; steps = all } ≡ script = cc in
-    subst (λ (s : Script). IsOfLines (record { whole = head ∷ more; rest = rest }) s) same (record {
+    let same : record { geometry = g; first_line = first_line ++ 10 ∷ []; steps = all } ≡ script = cc in
+    subst (λ (s : Script). IsOfLines (record { whole = first_line ∷ more; rest = rest }) s) same (record {
       ended = whole.ended;
       first = ap (λ (r : Result Geometry Why). r ∷ []) geometry;
       others = each;
@@ -145,9 +145,9 @@ parts_of head more rest (Ok g) (Some all) script geometry read none is =
 lines_of_script : (whole : List (List ℕ)) (rest : List ℕ) (script : Script) → lines_fault (record { whole = whole; rest = rest }) ≡ None
     → script_of_lines (record { whole = whole; rest = rest }) ≡ Some script → IsOfLines (record { whole = whole; rest = rest }) script
 lines_of_script [] rest script none is = absurd (cc is)
-lines_of_script (head ∷ more) rest script none is =
-    let good = good_line 1 (geometry_of head) (steps_fault 2 more rest) none in
-    parts_of head more rest (geometry_of head) (steps_of more) script refl refl good.more is
+lines_of_script (first_line ∷ more) rest script none is =
+    let good = good_line 1 (geometry_of first_line) (steps_fault 2 more rest) none in
+    parts_of first_line more rest (geometry_of first_line) (steps_of more) script refl refl good.more is
 
 -- by its bytes, which have no fault
 bytes_of_script : (lines : Lines) (large : Bool) (found : Option ScriptFault) (script : Script) → (if large then too_long else lines_fault lines) ≡ found

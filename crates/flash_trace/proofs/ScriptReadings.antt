@@ -44,17 +44,17 @@ steps_read line (text ∷ more) rest none =
     some_step (step_of text) (steps_of more) good.one (steps_read (line + 1) more rest good.more)
 
 -- a first line and the steps after it
-some_script : (head : List ℕ) (r : Result Geometry Why) (steps : Option (List Step)) → is_ok r ≡ true → is_some steps ≡ true → is_some (script_of_parts head (result_ok r) steps) ≡ true
-some_script head (Err why) steps one more = absurd (cc one)
-some_script head (Ok g) None one more = absurd (cc more)
-some_script head (Ok g) (Some steps) one more = refl
+some_script : (first_line : List ℕ) (r : Result Geometry Why) (steps : Option (List Step)) → is_ok r ≡ true → is_some steps ≡ true → is_some (script_of_parts first_line (result_ok r) steps) ≡ true
+some_script first_line (Err why) steps one more = absurd (cc one)
+some_script first_line (Ok g) None one more = absurd (cc more)
+some_script first_line (Ok g) (Some steps) one more = refl
 
 -- a script's lines without a fault are read
 lines_read : (whole : List (List ℕ)) (rest : List ℕ) → lines_fault (record { whole = whole; rest = rest }) ≡ None → is_some (script_of_lines (record { whole = whole; rest = rest })) ≡ true
 lines_read [] rest none = absurd (cc none)
-lines_read (head ∷ more) rest none =
-    let good = good_line 1 (geometry_of head) (steps_fault 2 more rest) none in
-    some_script head (geometry_of head) (steps_of more) good.one (steps_read 2 more rest good.more)
+lines_read (first_line ∷ more) rest none =
+    let good = good_line 1 (geometry_of first_line) (steps_fault 2 more rest) none in
+    some_script first_line (geometry_of first_line) (steps_of more) good.one (steps_read 2 more rest good.more)
 
 -- and bytes that aren't too many
 bytes_read : (lines : Lines) (large : Bool) → (if large then too_long else lines_fault lines) ≡ None → is_some (script_of_lines lines) ≡ true
@@ -122,18 +122,18 @@ steps_seats [] steps is = let same : [] ≡ steps = cc in subst AreSeated same t
 steps_seats (line ∷ more) steps is = seats_more (step_of line) (steps_of more) steps (λ step here. line_seat (words line) (behind_word (behind_word line)) step here) (λ all here. steps_seats more all here) is
 
 -- the steps of a script, by its parts
-parts_seats : (head : List ℕ) (geometry : Option Geometry) (steps : Option (List Step)) (script : Script) → ((all : List Step) → steps ≡ Some all → AreSeated all)
-    → script_of_parts head geometry steps ≡ Some script → AreSeated script.steps
-parts_seats head None steps script each is = absurd (cc is)
-parts_seats head (Some g) None script each is = absurd (cc is)
-parts_seats head (Some g) (Some all) script each is =
-    let same : record { geometry = g; head = head ++ 10 ∷ []; steps = all } ≡ script = cc in
+parts_seats : (first_line : List ℕ) (geometry : Option Geometry) (steps : Option (List Step)) (script : Script) → ((all : List Step) → steps ≡ Some all → AreSeated all)
+    → script_of_parts first_line geometry steps ≡ Some script → AreSeated script.steps
+parts_seats first_line None steps script each is = absurd (cc is)
+parts_seats first_line (Some g) None script each is = absurd (cc is)
+parts_seats first_line (Some g) (Some all) script each is =
+    let same : record { geometry = g; first_line = first_line ++ 10 ∷ []; steps = all } ≡ script = cc in
     subst (λ (s : Script). AreSeated s.steps) same (each all refl)
 
 -- by its lines
 lines_seats : (whole : List (List ℕ)) (rest : List ℕ) (script : Script) → script_of_lines (record { whole = whole; rest = rest }) ≡ Some script → AreSeated script.steps
 lines_seats [] rest script is = absurd (cc is)
-lines_seats (head ∷ more) rest script is = parts_seats head (result_ok (geometry_of head)) (steps_of more) script (λ all here. steps_seats more all here) is
+lines_seats (first_line ∷ more) rest script is = parts_seats first_line (result_ok (geometry_of first_line)) (steps_of more) script (λ all here. steps_seats more all here) is
 
 -- by its bytes
 bytes_seats : (lines : Lines) (good : Bool) (script : Script) → (if good then script_of_lines lines else None) ≡ Some script → AreSeated script.steps

@@ -5,7 +5,7 @@ use Rattle.std.proofs.lemmas.Bool.{cond_both}
 use Rattle.flash_names.specs.declared.geometry.Geometry.{Geometry}
 use Rattle.flash_core.specs.Store.{Call}
 use Rattle.flash_core.specs.Calls.{clock_call}
-use Rattle.flash_trace.specs.Playing.{Seat, Play, new_seat, after_call, act_all, behind_turn, seat_at, seat_or_new, with_seat, with_line, fed, clock, play_step}
+use Rattle.flash_trace.specs.Playing.{Seat, Play, new_seat, after_call, act_all, seat_after_run, seat_at, seat_or_new, with_seat, with_line, seat_after_input, clock, play_step}
 use Rattle.flash_trace.specs.Steps.{Step, Clock, Say, Run, IsSession}
 use Rattle.flash_trace.proofs.Lists.{get-set_same, get-set_other}
 
@@ -46,10 +46,10 @@ pub step_seats : (g : Geometry) (p : Play) (line : ℕ) (step : Step) → length
 step_seats g p line (Clock reading) sixteen = ap (λ (l : List (Option Seat)). length l) (seats_clock p line reading) ∙ sixteen
 step_seats g p line (Say session bytes) sixteen =
     let seat = seat_at p session in
-    cond_both seat.closed (with_line (with_seat p session seat) (codes "closed") line) (with_seat p session (fed g seat bytes)) (λ q. length q.seats ≡ 16)
-    (λ closed. seats_with p session seat sixteen) (λ reads. seats_with p session (fed g seat bytes) sixteen)
+    cond_both seat.closed (with_line (with_seat p session seat) (codes "closed") line) (with_seat p session (seat_after_input g seat bytes)) (λ q. length q.seats ≡ 16)
+    (λ closed. seats_with p session seat sixteen) (λ reads. seats_with p session (seat_after_input g seat bytes) sixteen)
 step_seats g p line (Run session) sixteen =
-    seats_with p session (behind_turn (act_all g session (p.kept, record (seat_at p session) { waiting = [] }) (seat_at p session).waiting).1) sixteen
+    seats_with p session (seat_after_run (act_all g session (p.kept, record (seat_at p session) { waiting = [] }) (seat_at p session).waiting).1) sixteen
 
 -- no session is made where each place is empty
 pub nobody : (n i : ℕ) → seat_or_new (slice_get (replicate n None) i) ≡ new_seat

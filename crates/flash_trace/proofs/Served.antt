@@ -16,7 +16,7 @@ use Rattle.flash_machine.specs.Cache.{Cache, first_cache}
 use Rattle.flash_machine.specs.Steps.{cache_of}
 use Rattle.flash_machine.specs.Legal.{IsNew}
 use Rattle.flash_trace.specs.declared.command.Command.{Command}
-use Rattle.flash_trace.specs.Answers.{ask_of, asks_of, outcome_from, or_no_memory, outcome, reply_to, answers_from, answers, entry_ask, IsOneOf, Keeps, IsKnown}
+use Rattle.flash_trace.specs.Answers.{ask_of, asks_of, outcome_from, or_no_memory, outcome, reply_to, answers_from, answers, entry_ask, IsOneOf, Keeps, HasEntry}
 use Rattle.flash_trace.specs.Replies.{step_text, plain_text}
 use Rattle.flash_trace.proofs.Outcomes.{outcome_behind, outcome_stays}
 use Rattle.flash_trace.proofs.Asked.{IsOf, AreOf}
@@ -27,11 +27,11 @@ use Rattle.flash_trace.proofs.Answering.{answers_same, answers_from-append}
 
 -- the session was answered this for these commands, has done so many steps, and each of them is in the journal,
 -- and no other of it
-pub record IsServed (g : Geometry) (pass : ℕ) (journal : List Entry) (done : List Command) (last : ℕ) (said : List ℕ) : Type 0 where
-  pub said_is : said ≡ concat (answers g done pass journal)
+pub record IsServed (g : Geometry) (pass : ℕ) (journal : List Entry) (done : List Command) (last : ℕ) (replies : List ℕ) : Type 0 where
+  pub replies_are : replies ≡ concat (answers g done pass journal)
   pub last_is : last ≡ length (asks_of done)
   pub keeps : Keeps done pass journal
-  pub known : (seq : ℕ) → 1 ≤ seq → seq ≤ last → IsKnown g pass seq journal
+  pub known : (seq : ℕ) → 1 ≤ seq → seq ≤ last → HasEntry g pass seq journal
 
 -- a step of the pass that an entry records is one of these
 abbrev pub IsListed : ℕ → List Ask → Entry → Type 0
@@ -47,18 +47,18 @@ asks_more done command = filter_map-append ask_of done (command ∷ [])
 
 module _ (g : Geometry) (pass : ℕ) where
   -- the steps that a session has done keep their outcomes
-  known_stays : (h es : List Entry) (last : ℕ) → ((seq : ℕ) → 1 ≤ seq → seq ≤ last → IsKnown g pass seq h) → (seq : ℕ) → 1 ≤ seq → seq ≤ last → IsKnown g pass seq (h ++ es)
+  known_stays : (h es : List Entry) (last : ℕ) → ((seq : ℕ) → 1 ≤ seq → seq ≤ last → HasEntry g pass seq h) → (seq : ℕ) → 1 ≤ seq → seq ≤ last → HasEntry g pass seq (h ++ es)
   known_stays h es last known seq from to = subst (IsSome {T = Told}) (sym (outcome_stays g pass seq h es (known seq from to))) (known seq from to)
 
   -- so the replies to what it has done stay the same
-  answers_stay : (h es : List Entry) (done : List Command) (last : ℕ) (said : List ℕ) → IsServed g pass h done last said → answers g done pass h ≡ answers g done pass (h ++ es)
-  answers_stay h es done last said was =
+  answers_stay : (h es : List Entry) (done : List Command) (last : ℕ) (replies : List ℕ) → IsServed g pass h done last replies → answers g done pass h ≡ answers g done pass (h ++ es)
+  answers_stay h es done last replies was =
       answers_same g pass h (h ++ es) done 1 (λ n from to. ap or_no_memory (sym (outcome_stays g pass n h es (was.known n from (omega (arith, was.last_is))))))
 
   -- entries after that record no other step of it
-  pub served_behind : (h es : List Entry) (done : List Command) (last : ℕ) (said : List ℕ) → KeepsTo pass (asks_of done) es → IsServed g pass h done last said → IsServed g pass (h ++ es) done last said
-  served_behind h es done last said keeps was = record {
-    said_is = was.said_is ∙ ap concat (answers_stay h es done last said was);
+  pub served_behind : (h es : List Entry) (done : List Command) (last : ℕ) (replies : List ℕ) → KeepsTo pass (asks_of done) es → IsServed g pass h done last replies → IsServed g pass (h ++ es) done last replies
+  served_behind h es done last replies keeps was = record {
+    replies_are = was.replies_are ∙ ap concat (answers_stay h es done last replies was);
     last_is = was.last_is;
     keeps = all_behind (IsListed pass (asks_of done)) h es was.keeps keeps;
     known = known_stays h es last was.known;
@@ -70,9 +70,9 @@ module _ (g : Geometry) (pass : ℕ) where
       all_map (IsOf id ask) (IsListed pass asks) (λ e of step is mine. absurd (other (ap (λ (t : Id × Ask). t.0.pass) (sym (of step is)) ∙ mine))) es all
 
   -- another session's step
-  pub served_other : (h es : List Entry) (done : List Command) (last : ℕ) (said : List ℕ) (id : Id) (ask : Ask) → id.pass ≢ pass → AreOf id ask es → IsServed g pass h done last said
-      → IsServed g pass (h ++ es) done last said
-  served_other h es done last said id ask other all was = served_behind h es done last said (other_keeps (asks_of done) id ask es other all) was
+  pub served_other : (h es : List Entry) (done : List Command) (last : ℕ) (replies : List ℕ) (id : Id) (ask : Ask) → id.pass ≢ pass → AreOf id ask es → IsServed g pass h done last replies
+      → IsServed g pass (h ++ es) done last replies
+  served_other h es done last replies id ask other all was = served_behind h es done last replies (other_keeps (asks_of done) id ask es other all) was
 
   -- the replies to one command more
   said_more : (h : List Entry) (done : List Command) (command : Command) (text : List ℕ) → reply_to g pass (1 + length (asks_of done)) h command (ask_of command) (answers_from g pass h []) ≡ text ∷ []
@@ -85,14 +85,14 @@ module _ (g : Geometry) (pass : ℕ) where
       ∙ ap (λ (t : List ℕ). before ++ t) (append-nil text))
 
   -- a command without a step
-  pub served_plain : (h : List Entry) (done : List Command) (last : ℕ) (said : List ℕ) (command : Command) → ask_of command ≡ None → IsServed g pass h done last said
-      → IsServed g pass h (done ++ command ∷ []) last (said ++ plain_text command)
-  served_plain h done last said command none was =
+  pub served_plain : (h : List Entry) (done : List Command) (last : ℕ) (replies : List ℕ) (command : Command) → ask_of command ≡ None → IsServed g pass h done last replies
+      → IsServed g pass h (done ++ command ∷ []) last (replies ++ plain_text command)
+  served_plain h done last replies command none was =
       let seq = 1 + length (asks_of done) in
       let asks : asks_of done ≡ asks_of (done ++ command ∷ []) = sym (asks_more done command ∙ ap (λ (ask : Option Ask). asks_of done ++ cons_option ask []) none ∙ append-nil (asks_of done)) in
       record {
-        said_is =
-            ap (λ (text : List ℕ). text ++ plain_text command) was.said_is
+        replies_are =
+            ap (λ (text : List ℕ). text ++ plain_text command) was.replies_are
             ∙ said_more h done command (plain_text command) (ap (λ (ask : Option Ask). reply_to g pass seq h command ask (answers_from g pass h [])) none);
         last_is = was.last_is ∙ ap (λ (asks : List Ask). length asks) asks;
         keeps = subst (λ (asks : List Ask). KeepsTo pass asks h) asks was.keeps;
@@ -115,18 +115,18 @@ module _ (g : Geometry) (pass : ℕ) where
       all_map (IsOf (record { pass = pass; seq = last + 1 }) ask) (IsListed pass (asks ++ ask ∷ [])) (λ e of step is. subst (IsOneOf pass (asks ++ ask ∷ [])) (sym (of step is)) one) es all
 
   -- each step up to the next one has an outcome
-  known_more : (j : List Entry) (last : ℕ) (told : Told) → ((seq : ℕ) → 1 ≤ seq → seq ≤ last → IsKnown g pass seq j) → outcome_from g [] first_cache (record { pass = pass; seq = last + 1 }) j ≡ Some told
-      → (seq : ℕ) → 1 ≤ seq → seq ≤ last + 1 → IsKnown g pass seq j
+  known_more : (j : List Entry) (last : ℕ) (told : Told) → ((seq : ℕ) → 1 ≤ seq → seq ≤ last → HasEntry g pass seq j) → outcome_from g [] first_cache (record { pass = pass; seq = last + 1 }) j ≡ Some told
+      → (seq : ℕ) → 1 ≤ seq → seq ≤ last + 1 → HasEntry g pass seq j
   known_more j last told known own seq from to = elim (cases_eq seq (last + 1)) [
-    | inl same ↦ subst (λ (n : ℕ). IsKnown g pass n j) (sym same) (subst (IsSome {T = Told}) (sym own) refl)
+    | inl same ↦ subst (λ (n : ℕ). HasEntry g pass n j) (sym same) (subst (IsSome {T = Told}) (sym own) refl)
     | inr other ↦ known seq from (omega (arith, other))
   ]
 
   -- a command with a step, which the entries after record
-  pub served_step : (h es : List Entry) (c : Cache) (done : List Command) (last : ℕ) (said : List ℕ) (command : Command) (ask : Ask) (told : Told)
+  pub served_step : (h es : List Entry) (c : Cache) (done : List Command) (last : ℕ) (replies : List ℕ) (command : Command) (ask : Ask) (told : Told)
       → c ≡ cache_of g h → IsNew h (record { pass = pass; seq = last + 1 }) → Records g h c (record { pass = pass; seq = last + 1 }) ask told es → ask_of command ≡ Some ask
-      → IsServed g pass h done last said → IsServed g pass (h ++ es) (done ++ command ∷ []) (last + 1) (said ++ step_text command told)
-  served_step h es c done last said command ask told same new records asked was =
+      → IsServed g pass h done last replies → IsServed g pass (h ++ es) (done ++ command ∷ []) (last + 1) (replies ++ step_text command told)
+  served_step h es c done last replies command ask told same new records asked was =
       let id : Id = record { pass = pass; seq = last + 1 } in
       let j = h ++ es in
       let seq = 1 + length (asks_of done) in
@@ -135,8 +135,8 @@ module _ (g : Geometry) (pass : ℕ) where
       let asks : asks_of done ++ ask ∷ [] ≡ asks_of (done ++ command ∷ []) = sym (asks_more done command ∙ ap (λ (a : Option Ask). asks_of done ++ cons_option a []) asked) in
       let at : outcome g pass seq j ≡ told = ap (λ (n : ℕ). outcome g pass n j) (omega (arith, was.last_is)) ∙ ap or_no_memory own in
       record {
-        said_is =
-            ap (λ (text : List ℕ). text ++ step_text command told) (was.said_is ∙ ap concat (answers_stay h es done last said was))
+        replies_are =
+            ap (λ (text : List ℕ). text ++ step_text command told) (was.replies_are ∙ ap concat (answers_stay h es done last replies was))
             ∙ said_more j done command (step_text command told)
             (ap (λ (a : Option Ask). reply_to g pass seq j command a (answers_from g pass j [])) asked ∙ ap (λ (t : Told). step_text command t ∷ []) at);
         last_is = omega (arith, was.last_is, ap (λ (l : List Ask). length l) asks, length-append (asks_of done) (ask ∷ []));

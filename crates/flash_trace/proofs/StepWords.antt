@@ -12,44 +12,44 @@ use Rattle.flash_trace.specs.Scripts.{behind_word, session_of, step_word, step_o
 use Rattle.flash_trace.proofs.ScriptWords.{no_words, behind_first, IsEnd, end_twice}
 
 -- words that have a word more
-has_more : (begin : StepWord) (number text said : List ℕ) (ws : List (List ℕ)) (r : Result Step Why) → words said ≡ ws
+has_more : (begin : StepWord) (number text input : List ℕ) (ws : List (List ℕ)) (r : Result Step Why) → words input ≡ ws
     → ((word : List ℕ) (more : List (List ℕ)) → step_of_word begin (number ∷ word ∷ more) text ≡ r) → step_of_word begin (number ∷ ws) text ≡ r
-has_more begin number text said [] r here each = absurd (no_words said here)
-has_more begin number text said (w ∷ ws) r here each = each w ws
+has_more begin number text input [] r here each = absurd (no_words input here)
+has_more begin number text input (w ∷ ws) r here each = each w ws
 
 -- the words of a part after a space
 behind_space : (bytes word : List ℕ) (rest : Option (Bor (List ℕ))) (r : Bor (List ℕ)) → words bytes ≡ word ∷ words_if (option_map (λ x. x.now) rest) → rest ≡ Some r
     → words bytes ≡ word ∷ words r.now
 behind_space bytes word rest r is here = is ∙ ap (λ (o : Option (Bor (List ℕ))). word ∷ words_if (option_map (λ x. x.now) o)) here
 
-module _ (line word number : List ℕ) (second third : Option (Bor (List ℕ))) (rest said : Bor (List ℕ))
+module _ (line word number : List ℕ) (second third : Option (Bor (List ℕ))) (rest input : Bor (List ℕ))
     (cut : words line ≡ word ∷ words_if (option_map (λ x. x.now) second)) (has_rest : second ≡ Some rest)
-    (cut_rest : words rest.now ≡ number ∷ words_if (option_map (λ x. x.now) third)) (has_said : third ≡ Some said) where
+    (cut_rest : words rest.now ≡ number ∷ words_if (option_map (λ x. x.now) third)) (has_input : third ≡ Some input) where
   words_line : words line ≡ word ∷ words rest.now
   words_line = behind_space line word second rest cut has_rest
 
-  words_rest : words rest.now ≡ number ∷ words said.now
-  words_rest = behind_space rest.now number third said cut_rest has_said
+  words_rest : words rest.now ≡ number ∷ words input.now
+  words_rest = behind_space rest.now number third input cut_rest has_input
 
-  said_is : behind_word (behind_word line) ≡ said.now
-  said_is = ap behind_word (behind_first line word rest.now words_line) ∙ behind_first rest.now number said.now words_rest
+  input_is : behind_word (behind_word line) ≡ input.now
+  input_is = ap behind_word (behind_first line word rest.now words_line) ∙ behind_first rest.now number input.now words_rest
 
-  -- what is said ends the line
-  pub ends_line : IsEnd said.now line
-  ends_line = subst (λ (l : List ℕ). IsEnd l line) said_is (end_twice line)
+  -- what is input ends the line
+  pub ends_line : IsEnd input.now line
+  ends_line = subst (λ (l : List ℕ). IsEnd l line) input_is (end_twice line)
 
-  step_is : (begin : StepWord) → step_word word ≡ Some begin → step_of line ≡ step_of_word begin (number ∷ words said.now) said.now
+  step_is : (begin : StepWord) → step_word word ≡ Some begin → step_of line ≡ step_of_word begin (number ∷ words input.now) input.now
   step_is begin is =
-      ap (λ (l : List ℕ). step_of_words (words line) l) said_is ∙ ap (λ (ws : List (List ℕ)). step_of_words ws said.now) words_line
-      ∙ ap (λ (b : Option StepWord). elim b [ None ↦ Err BadWord | Some begin ↦ step_of_word begin (words rest.now) said.now ]) is
-      ∙ ap (λ (ws : List (List ℕ)). step_of_word begin ws said.now) words_rest
+      ap (λ (l : List ℕ). step_of_words (words line) l) input_is ∙ ap (λ (ws : List (List ℕ)). step_of_words ws input.now) words_line
+      ∙ ap (λ (b : Option StepWord). elim b [ None ↦ Err BadWord | Some begin ↦ step_of_word begin (words rest.now) input.now ]) is
+      ∙ ap (λ (ws : List (List ℕ)). step_of_word begin ws input.now) words_rest
 
-  pub say_is : step_word word ≡ Some begins.Say → step_of line ≡ ok_or (option_map (λ session. Say session said.now) (session_of number)) BadNumber
-  say_is is = step_is begins.Say is ∙ has_more begins.Say number said.now said.now (words said.now) (ok_or (option_map (λ session. Say session said.now) (session_of number)) BadNumber) refl (λ w ws. refl)
+  pub say_is : step_word word ≡ Some begins.Say → step_of line ≡ ok_or (option_map (λ session. Say session input.now) (session_of number)) BadNumber
+  say_is is = step_is begins.Say is ∙ has_more begins.Say number input.now input.now (words input.now) (ok_or (option_map (λ session. Say session input.now) (session_of number)) BadNumber) refl (λ w ws. refl)
 
   -- the other steps have no third word
   pub clock_is : step_word word ≡ Some begins.Clock → step_of line ≡ Err BadWord
-  clock_is is = step_is begins.Clock is ∙ has_more begins.Clock number said.now said.now (words said.now) (Err BadWord) refl (λ w ws. refl)
+  clock_is is = step_is begins.Clock is ∙ has_more begins.Clock number input.now input.now (words input.now) (Err BadWord) refl (λ w ws. refl)
 
   pub run_is : step_word word ≡ Some begins.Run → step_of line ≡ Err BadWord
-  run_is is = step_is begins.Run is ∙ has_more begins.Run number said.now said.now (words said.now) (Err BadWord) refl (λ w ws. refl)
+  run_is is = step_is begins.Run is ∙ has_more begins.Run number input.now input.now (words input.now) (Err BadWord) refl (λ w ws. refl)

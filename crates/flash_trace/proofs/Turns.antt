@@ -9,7 +9,7 @@ use Rattle.flash_names.specs.declared.geometry.Geometry.{Geometry}
 use Rattle.flash_trace.specs.declared.command.Command.{Command}
 use Rattle.flash_trace.specs.declared.play.Seat as code
 use Rattle.flash_trace.specs.Commands.{Reader}
-use Rattle.flash_trace.specs.Playing.{Seat, StoreState, Play, act_all, behind_turn, seat_or_new, seat_at, with_seat, with_line, fed, say, run}
+use Rattle.flash_trace.specs.Playing.{Seat, StoreState, Play, act_all, seat_after_run, seat_or_new, seat_at, with_seat, with_line, seat_after_input, say, run}
 use Rattle.flash_trace.specs.Seats.{seat_of, AreSeats, TakesUpTo}
 
 -- what holds of each element holds of each after one was set
@@ -30,20 +30,20 @@ set_twice [] i first second = refl
 set_twice (x ∷ xs) zero first second = refl
 set_twice (x ∷ xs) (suc i) first second = ap (λ (l : List _). x ∷ l) (set_twice xs i first second)
 
-module _ (seats : List (Option code.Seat)) (number place : ℕ) (counted : place + 1 ≡ number) where
+module _ (seats : List (Option code.Seat)) (number index : ℕ) (counted : index + 1 ≡ number) where
   -- the session that is at a number's place
-  at_place : (made : Option code.Seat) → length seats ≡ 16 → place < 16 → made ≡ slice_index_or seats place made → slice_get seats (number - 1) ≡ Some made
+  at_place : (made : Option code.Seat) → length seats ≡ 16 → index < 16 → made ≡ slice_index_or seats index made → slice_get seats (number - 1) ≡ Some made
   at_place made sixteen within is =
-      let there : place ≡ number - 1 = omega (arith, counted) in
-      subst (λ (n : ℕ). slice_get seats n ≡ Some made) there (slice_get_read seats (length seats) place made refl (omega (arith, sixteen, within)) is)
+      let there : index ≡ number - 1 = omega (arith, counted) in
+      subst (λ (n : ℕ). slice_get seats n ≡ Some made) there (slice_get_read seats (length seats) index made refl (omega (arith, sixteen, within)) is)
 
-  pub seat_at_place : (made : Option code.Seat) → length seats ≡ 16 → place < 16 → made ≡ slice_index_or seats place made
+  pub seat_at_place : (made : Option code.Seat) → length seats ≡ 16 → index < 16 → made ≡ slice_index_or seats index made
       → seat_or_new (Some (option_map seat_of made)) ≡ seat_or_new (slice_get (map (option_map seat_of) seats) (number - 1))
   seat_at_place made sixteen within is =
       ap seat_or_new (sym (slice_get-map (option_map seat_of) seats (number - 1) ∙ ap (option_map (option_map seat_of)) (at_place made sixteen within is)))
 
   -- it takes values of the store's size
-  pub size_at_place : (item_max : ℕ) (made : Option code.Seat) → AreSeats item_max seats → place < 16 → made ≡ slice_index_or seats place made → ForSome made (TakesUpTo item_max)
+  pub size_at_place : (item_max : ℕ) (made : Option code.Seat) → AreSeats item_max seats → index < 16 → made ≡ slice_index_or seats index made → ForSome made (TakesUpTo item_max)
   size_at_place item_max made are within is =
       all_get (λ (s : Option code.Seat). ForSome s (TakesUpTo item_max)) seats (number - 1) made (at_place made are.sixteen within is) are.sized
 
@@ -69,11 +69,11 @@ module _ (item_max : ℕ) (seats taken put : List (Option code.Seat)) (i : ℕ) 
 -- a turn of a session, put together
 module _ (g : Geometry) (p : Play) (number : ℕ) (seat : Seat) (is : seat ≡ seat_at p number) where
   pub ran : (commands : List Command) (first : Seat) (after : StoreState × Seat) → first ≡ record seat { waiting = [] } → commands ≡ seat.waiting → after ≡ act_all g number (p.kept, first) commands
-      → with_seat (record p { kept = after.0 }) number (behind_turn after.1) ≡ run g p number
+      → with_seat (record p { kept = after.0 }) number (seat_after_run after.1) ≡ run g p number
   ran commands first after begins all done =
       let turn = λ (s : Seat). act_all g number (p.kept, record s { waiting = [] }) s.waiting in
       let one : after ≡ turn seat = done ∙ ap (λ (f : Seat). act_all g number (p.kept, f) commands) begins ∙ ap (λ (l : List Command). act_all g number (p.kept, record seat { waiting = [] }) l) all in
-      ap (λ (a : StoreState × Seat). with_seat (record p { kept = a.0 }) number (behind_turn a.1)) (one ∙ ap turn is)
+      ap (λ (a : StoreState × Seat). with_seat (record p { kept = a.0 }) number (seat_after_run a.1)) (one ∙ ap turn is)
 
 -- what has happened so far, by its parts
 pub played_by : (kept : StoreState) (printed printed2 : List ℕ) (seats seats2 : List (Option Seat)) → printed ≡ printed2 → seats ≡ seats2
@@ -100,15 +100,15 @@ module _ (g : Geometry) (p : Play) (line number : ℕ) (bytes : List ℕ) (seat 
   heard_if taken new = record p { printed = printed_if taken; seats = slice_set p.seats (number - 1) (Some new) }
 
   abbrev turn : Seat → Play
-  turn s = if s.closed then with_line (with_seat p number s) (codes "closed") line else with_seat p number (fed g s bytes)
+  turn s = if s.closed then with_line (with_seat p number s) (codes "closed") line else with_seat p number (seat_after_input g s bytes)
 
-  by_closed : (closed : Bool) → seat.closed ≡ closed → heard_if (not closed) (if not closed then fed g seat bytes else seat) ≡ turn seat
-  by_closed true at = sym (ap (λ b. if b then with_line (with_seat p number seat) (codes "closed") line else with_seat p number (fed g seat bytes)) at)
-  by_closed false at = sym (ap (λ b. if b then with_line (with_seat p number seat) (codes "closed") line else with_seat p number (fed g seat bytes)) at)
+  by_closed : (closed : Bool) → seat.closed ≡ closed → heard_if (not closed) (if not closed then seat_after_input g seat bytes else seat) ≡ turn seat
+  by_closed true at = sym (ap (λ b. if b then with_line (with_seat p number seat) (codes "closed") line else with_seat p number (seat_after_input g seat bytes)) at)
+  by_closed false at = sym (ap (λ b. if b then with_line (with_seat p number seat) (codes "closed") line else with_seat p number (seat_after_input g seat bytes)) at)
 
-  pub said_by : (taken : Bool) (new : Seat) → taken ≡ not seat.closed → new ≡ (if taken then fed g seat bytes else seat) → heard_if taken new ≡ say g p line number bytes
+  pub said_by : (taken : Bool) (new : Seat) → taken ≡ not seat.closed → new ≡ (if taken then seat_after_input g seat bytes else seat) → heard_if taken new ≡ say g p line number bytes
   said_by taken new was heard =
-      ap (heard_if taken) heard ∙ ap (λ b. heard_if b (if b then fed g seat bytes else seat)) was ∙ by_closed seat.closed refl ∙ ap turn is
+      ap (heard_if taken) heard ∙ ap (λ b. heard_if b (if b then seat_after_input g seat bytes else seat)) was ∙ by_closed seat.closed refl ∙ ap turn is
 
 -- a session by the parts that reading changes
 pub seat_read : (seat : Seat) (reader reader2 : Reader) (waiting waiting2 : List Command) → reader ≡ reader2 → waiting ≡ waiting2

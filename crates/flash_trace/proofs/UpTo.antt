@@ -6,8 +6,8 @@ use Rattle.flash_names.specs.declared.geometry.Geometry.{Geometry}
 use Rattle.flash_entry.specs.declared.entry.Entry.{Entry}
 use Rattle.flash_trace.specs.declared.command.Command.{Command}
 use Rattle.flash_trace.specs.Answers.{answers, asks_of, Keeps, IsAnswered}
-use Rattle.flash_trace.specs.Commands.{commands_of, read_from, label_has_ended}
-use Rattle.flash_trace.specs.Playing.{Seat, new_seat, fed}
+use Rattle.flash_trace.specs.Commands.{commands_of, read_from, is_at_end}
+use Rattle.flash_trace.specs.Playing.{Seat, new_seat, seat_after_input}
 use Rattle.flash_trace.proofs.Pieces.{IsRead, read_more, read_at_end, read_none}
 use Rattle.flash_trace.proofs.Served.{IsServed}
 
@@ -17,8 +17,8 @@ pub record IsUpTo (g : Geometry) (session : ℕ) (bytes turns : List ℕ) (journ
   pub done : List Command
   pub done_are : done ≡ (commands_of g.item_max turns).0
   pub read : IsRead g.item_max bytes (done ++ seat.waiting) seat.reader
-  pub served : IsServed g session journal done seat.last seat.said
-  pub ended : IsTrue seat.closed → IsTrue (label_has_ended seat.reader)
+  pub served : IsServed g session journal done seat.last seat.replies
+  pub ended : IsTrue seat.closed → IsTrue (is_at_end seat.reader)
 
 module _ (g : Geometry) where
   -- no bytes more
@@ -27,7 +27,7 @@ module _ (g : Geometry) where
       subst (λ (bytes : List ℕ). IsUpTo g session bytes turns journal seat) (sym (ap (λ (l : List ℕ). given ++ l) none ∙ append-nil given)) up
 
   -- bytes for a session that reads
-  pub fed_up : (session : ℕ) (given bytes turns : List ℕ) (journal : List Entry) (seat : Seat) → seat.closed ≡ false → IsUpTo g session given turns journal seat → IsUpTo g session (given ++ (bytes ++ 13 ∷ 10 ∷ [])) turns journal (fed g seat bytes)
+  pub fed_up : (session : ℕ) (given bytes turns : List ℕ) (journal : List Entry) (seat : Seat) → seat.closed ≡ false → IsUpTo g session given turns journal seat → IsUpTo g session (given ++ (bytes ++ 13 ∷ 10 ∷ [])) turns journal (seat_after_input g seat bytes)
   fed_up session given bytes turns journal seat reads up =
       let more = bytes ++ 13 ∷ 10 ∷ [] in
       let new = read_from g.item_max seat.reader more in
@@ -58,7 +58,7 @@ module _ (g : Geometry) where
     done = [];
     done_are = refl;
     read = read_none g.item_max;
-    served = record { said_is = refl; last_is = refl; keeps = tt; known = λ seq from to. absurd (omega (arith, from, to)) };
+    served = record { replies_are = refl; last_is = refl; keeps = tt; known = λ seq from to. absurd (omega (arith, from, to)) };
     ended = λ closed. absurd (cc closed);
   }
 
@@ -67,7 +67,7 @@ module _ (g : Geometry) where
   is_answered session bytes turns journal seat up = record {
     read = up.read.reader_is;
     waiting = sym up.read.commands_are ∙ ap (λ (done : List Command). done ++ seat.waiting) up.done_are;
-    said = up.served.said_is ∙ ap (λ (done : List Command). concat (answers g done session journal)) up.done_are;
+    replies = up.served.replies_are ∙ ap (λ (done : List Command). concat (answers g done session journal)) up.done_are;
     known = λ seq from to. up.served.known seq from (omega (arith, to, up.served.last_is, ap (λ (done : List Command). length (asks_of done)) up.done_are));
     keeps = subst (λ (done : List Command). Keeps done session journal) up.done_are up.served.keeps;
     ended = up.ended;

@@ -1,7 +1,7 @@
 -- The replies to a session's commands, read off the journal.
 use Rattle.std.specs.Prelude.{◌≡◌, ℕ, ◌+◌, ◌-◌, ◌^◌, ◌≤◌, max, min, Bool, true, false, ◌&&◌, nat_eq, List, [], ◌∷◌, ◌++◌, length, slice_get, Option, None, Some, IsSome, IsTrue, if◌then◌else◌}
 use Rattle.std.specs.List.{concat, filter_map, list_any, AllByRecursion}
-use Rattle.std.specs.Option.{ForSome}
+use Rattle.std.specs.Option.{ForSome, option_or}
 use Rattle.flash_names.specs.declared.place.Id.{Id}
 use Rattle.flash_names.specs.declared.geometry.Geometry.{Geometry}
 use Rattle.flash_entry.specs.declared.ask.Ask.{Ask}
@@ -22,7 +22,7 @@ use Rattle.flash_machine.specs.Legal.{Legal}
 use Rattle.flash_machine.specs.Steps.{next, cache_of}
 use Rattle.flash_trace.specs.declared.command.Command.{Command}
 use Rattle.flash_trace.specs.declared.command.Command.TheVariants.{Get, Store, Refused}
-use Rattle.flash_trace.specs.Commands.{commands_of, label_has_ended}
+use Rattle.flash_trace.specs.Commands.{commands_of, is_at_end}
 use Rattle.flash_trace.specs.Playing.{Seat, seat_at, play_of}
 use Rattle.flash_trace.specs.Replies.{step_text, plain_text}
 use Rattle.flash_trace.specs.Steps.{Step, Clock, Say, Run, IsSession, AreSeated}
@@ -50,15 +50,10 @@ entry_outcome journal c id (entries.Did other done) = if same_id other id then S
 entry_outcome journal c id (entries.Looked other key look residence) = if same_id other id then Some (found_outcome c look (live_item journal c key)) else None
 entry_outcome journal c id _ = None
 
--- the first of two outcomes that is there
-abbrev pub first_outcome : Option Told → Option Told → Option Told
-first_outcome None later = later
-first_outcome (Some outcome) later = Some outcome
-
 -- the outcome of a step, from the entries after a journal, if one of them is its own
 abbrev pub outcome_from : Geometry → List Entry → Cache → Id → List Entry → Option Told
 outcome_from g journal c id [] = None
-outcome_from g journal c id (e ∷ es) = first_outcome (entry_outcome journal c id e) (outcome_from g (journal ++ e ∷ []) (next g journal c e) id es)
+outcome_from g journal c id (e ∷ es) = option_or (entry_outcome journal c id e) (outcome_from g (journal ++ e ∷ []) (next g journal c e) id es)
 
 -- a step without an entry of its own had no memory
 abbrev pub or_no_memory : Option Told → Told
@@ -70,8 +65,8 @@ abbrev pub outcome : Geometry → ℕ → ℕ → List Entry → Told
 outcome g pass seq journal = or_no_memory (outcome_from g [] first_cache (record { pass = pass; seq = seq }) journal)
 
 -- the journal has an entry of this step, which gives its outcome
-abbrev pub IsKnown : Geometry → ℕ → ℕ → List Entry → Type 0
-IsKnown g pass seq journal = IsSome (outcome_from g [] first_cache (record { pass = pass; seq = seq }) journal)
+abbrev pub HasEntry : Geometry → ℕ → ℕ → List Entry → Type 0
+HasEntry g pass seq journal = IsSome (outcome_from g [] first_cache (record { pass = pass; seq = seq }) journal)
 
 -- what a command asks of the store, if it asks
 abbrev pub ask_of : Command → Option Ask
@@ -128,18 +123,18 @@ bytes_to session [] = []
 bytes_to session (step ∷ steps) = bytes_for session step ++ bytes_to session steps
 
 -- whether a step is a turn of the session
-abbrev pub is_turn : ℕ → Step → Bool
-is_turn session (Run other) = nat_eq other session
-is_turn session _ = false
+abbrev pub is_run : ℕ → Step → Bool
+is_run session (Run other) = nat_eq other session
+is_run session _ = false
 
 -- whether one of these steps is
-abbrev pub has_turn : ℕ → List Step → Bool
-has_turn session steps = list_any (is_turn session) steps
+abbrev pub has_run : ℕ → List Step → Bool
+has_run session steps = list_any (is_run session) steps
 
 -- the bytes that a script gives to a session before its last turn: those that have a turn after them
-abbrev pub bytes_in_turns : ℕ → List Step → List ℕ
-bytes_in_turns session [] = []
-bytes_in_turns session (step ∷ steps) = (if has_turn session steps then bytes_for session step else []) ++ bytes_in_turns session steps
+abbrev pub bytes_before_last_run : ℕ → List Step → List ℕ
+bytes_before_last_run session [] = []
+bytes_before_last_run session (step ∷ steps) = (if has_run session steps then bytes_for session step else []) ++ bytes_before_last_run session steps
 
 -- What a session was answered, where it was given these bytes, and `turns` of them before its last turn: its
 -- reader has read them all; each command in `turns` is done, and those that the other bytes end wait after them; the
@@ -148,10 +143,10 @@ bytes_in_turns session (step ∷ steps) = (if has_turn session steps then bytes_
 pub record IsAnswered (g : Geometry) (session : ℕ) (bytes turns : List ℕ) (journal : List Entry) (seat : Seat) : Type 0 where
   pub read : seat.reader ≡ (commands_of g.item_max bytes).1
   pub waiting : (commands_of g.item_max bytes).0 ≡ (commands_of g.item_max turns).0 ++ seat.waiting
-  pub said : seat.said ≡ concat (answers g (commands_of g.item_max turns).0 session journal)
-  pub known : (seq : ℕ) → 1 ≤ seq → seq ≤ length (asks_of (commands_of g.item_max turns).0) → IsKnown g session seq journal
+  pub replies : seat.replies ≡ concat (answers g (commands_of g.item_max turns).0 session journal)
+  pub known : (seq : ℕ) → 1 ≤ seq → seq ≤ length (asks_of (commands_of g.item_max turns).0) → HasEntry g session seq journal
   pub keeps : Keeps (commands_of g.item_max turns).0 session journal
-  pub ended : IsTrue seat.closed → IsTrue (label_has_ended seat.reader)
+  pub ended : IsTrue seat.closed → IsTrue (is_at_end seat.reader)
 
 -- the moment of a store after steps: the greatest reading of the clock, which counts up to 2^62
 abbrev pub moment_with : ℕ → Step → ℕ
@@ -167,7 +162,7 @@ moment_after now (step ∷ steps) = moment_after (moment_with now step) steps
 pub record IsRight (g : Geometry) (steps : List Step) : Type 0 where
   pub legal : Legal g (play_of g steps).kept.journal
   pub moment : (cache_of g (play_of g steps).kept.journal).now ≡ moment_after 0 steps
-  pub answered : (session : ℕ) → IsSession session → IsAnswered g session (bytes_to session steps) (bytes_in_turns session steps) (play_of g steps).kept.journal (seat_at (play_of g steps) session)
+  pub answered : (session : ℕ) → IsSession session → IsAnswered g session (bytes_to session steps) (bytes_before_last_run session steps) (play_of g steps).kept.journal (seat_at (play_of g steps) session)
 
 abbrev pub EveryPlayIsRight : Type 0
 EveryPlayIsRight = (g : Geometry) (steps : List Step) → AreSeated steps → IsRight g steps

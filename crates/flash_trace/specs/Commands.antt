@@ -84,6 +84,6 @@ abbrev pub commands_of : ℕ → List ℕ → Read
 commands_of item_max bytes = read_from item_max (InLine []) bytes
 
 -- whether the reader has met an end: nothing more is read
-abbrev pub label_has_ended : Reader → Bool
-label_has_ended Ended = true
-label_has_ended _ = false
+abbrev pub is_at_end : Reader → Bool
+is_at_end Ended = true
+is_at_end _ = false

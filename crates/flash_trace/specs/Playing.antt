@@ -12,7 +12,7 @@ use Rattle.flash_core.specs.Store.{Desk, Call}
 use Rattle.flash_core.specs.Calls.{clock_call, store_call, look_call}
 use Rattle.flash_trace.specs.declared.command.Command.{Command}
 use Rattle.flash_trace.specs.declared.command.Command.TheVariants.{Get, Store, Refused}
-use Rattle.flash_trace.specs.Commands.{Reader, InLine, label_has_ended, read_from}
+use Rattle.flash_trace.specs.Commands.{Reader, InLine, is_at_end, read_from}
 use Rattle.flash_trace.specs.Replies.{step_text, plain_text}
 use Rattle.flash_trace.specs.Steps.{Step, Clock, Say, Run}
 
@@ -22,7 +22,7 @@ pub record Seat : Type 0 where
   pub reader : Reader
   pub waiting : List Command
   pub last : ℕ
-  pub said : List ℕ
+  pub replies : List ℕ
   pub closed : Bool
 
 -- the store with its journal
@@ -38,7 +38,7 @@ pub record Play : Type 0 where
   pub seats : List (Option Seat)
 
 abbrev pub new_seat : Seat
-new_seat = record { reader = InLine []; waiting = []; last = 0; said = []; closed = false }
+new_seat = record { reader = InLine []; waiting = []; last = 0; replies = []; closed = false }
 
 -- before the first step
 abbrev pub first_play : Play
@@ -55,18 +55,18 @@ outcome_of (found.Head head) = outcomes.Head head
 outcome_of (found.Here hit) = outcomes.Hit hit
 
 -- the session after its step of this number
-abbrev pub replied : Seat → ℕ → List ℕ → Seat
-replied seat last text = record seat { last = last; said = seat.said ++ text }
+abbrev pub with_reply : Seat → ℕ → List ℕ → Seat
+with_reply seat last text = record seat { last = last; replies = seat.replies ++ text }
 
 -- one command of a session
 abbrev pub act : Geometry → ℕ → StoreState × Seat → Command → StoreState × Seat
 act g pass state (Get key) =
     let call = look_call state.0.cache state.0.desk (record { pass = pass; seq = state.1.last + 1 }) key (record { value = true; renew = None }) in
-    (after_call state.0 call, replied state.1 (state.1.last + 1) (step_text (Get key) (told.Found (outcome_of call.answer))))
+    (after_call state.0 call, with_reply state.1 (state.1.last + 1) (step_text (Get key) (told.Found (outcome_of call.answer))))
 act g pass state (Store put) =
     let call = store_call g state.0.cache state.0.desk (record { pass = pass; seq = state.1.last + 1 }) put in
-    (after_call state.0 call, replied state.1 (state.1.last + 1) (step_text (Store put) (told.Stored call.answer)))
-act g pass state (Refused refusal) = (state.0, replied state.1 state.1.last (plain_text (Refused refusal)))
+    (after_call state.0 call, with_reply state.1 (state.1.last + 1) (step_text (Store put) (told.Stored call.answer)))
+act g pass state (Refused refusal) = (state.0, with_reply state.1 state.1.last (plain_text (Refused refusal)))
 
 -- commands of a session, in order
 abbrev pub act_all : Geometry → ℕ → StoreState × Seat → List Command → StoreState × Seat
@@ -93,28 +93,28 @@ abbrev pub with_line_unless : Bool → Play → List ℕ → ℕ → Play
 with_line_unless done play word line = if done then play else with_line play word line
 
 -- the session after it was given the bytes and a line end, where values have at most this size
-abbrev pub fed_by : ℕ → Seat → List ℕ → Seat
-fed_by item_max seat bytes =
+abbrev pub seat_with_input : ℕ → Seat → List ℕ → Seat
+seat_with_input item_max seat bytes =
     let read = read_from item_max seat.reader (bytes ++ 13 ∷ 10 ∷ []) in record seat { reader = read.1; waiting = seat.waiting ++ read.0 }
 
-abbrev pub fed : Geometry → Seat → List ℕ → Seat
-fed g seat bytes = fed_by g.item_max seat bytes
+abbrev pub seat_after_input : Geometry → Seat → List ℕ → Seat
+seat_after_input g seat bytes = seat_with_input g.item_max seat bytes
 
 -- bytes for a session: one that is closed takes nothing, and a line is printed
 abbrev pub say : Geometry → Play → ℕ → ℕ → List ℕ → Play
 say g play line session bytes =
     let seat = seat_at play session in
-    if seat.closed then with_line (with_seat play session seat) (codes "closed") line else with_seat play session (fed g seat bytes)
+    if seat.closed then with_line (with_seat play session seat) (codes "closed") line else with_seat play session (seat_after_input g seat bytes)
 
 -- the session after its turn: it is closed where its reader has met an end
-abbrev pub behind_turn : Seat → Seat
-behind_turn seat = record seat { closed = label_has_ended seat.reader }
+abbrev pub seat_after_run : Seat → Seat
+seat_after_run seat = record seat { closed = is_at_end seat.reader }
 
 -- a turn of the session: it does the commands that it has read
 abbrev pub run : Geometry → Play → ℕ → Play
 run g play session =
     let seat = seat_at play session in let after = act_all g session (play.kept, record seat { waiting = [] }) seat.waiting in
-    with_seat (record play { kept = after.0 }) session (behind_turn after.1)
+    with_seat (record play { kept = after.0 }) session (seat_after_run after.1)
 
 -- a reading of the clock: where the moment doesn't rise, a line is printed
 abbrev pub clock : Play → ℕ → ℕ → Play

@@ -28,11 +28,11 @@ IsStepLine line = is_ok (step_of line) ≡ true
 
 -- lines of which one is bad, and those before it are good
 pub record HasBadLine (lines : Lines) (good : List (List ℕ)) (why : Why) : Type 0 where
-  pub head : List ℕ
+  pub first_line : List ℕ
   pub bad : List ℕ
   pub more : List (List ℕ)
-  pub parts : lines.whole ≡ head ∷ (good ++ bad ∷ more)
-  pub geometry : is_ok (geometry_of head) ≡ true
+  pub parts : lines.whole ≡ first_line ∷ (good ++ bad ∷ more)
+  pub geometry : is_ok (geometry_of first_line) ≡ true
   pub steps : AllByRecursion IsStepLine good
   pub fault : step_of bad ≡ Err why
 
@@ -42,15 +42,15 @@ IsFirstBadLine = (bytes : List ℕ) (good : List (List ℕ)) (why : Why) → len
     → fault_of bytes ≡ Some (record { line = length good + 2; why = why })
 
 -- a first line that is bad is the fault
-abbrev pub IsBadHead : Type 0
-IsBadHead = (bytes head : List ℕ) (more : List (List ℕ)) (why : Why) → length bytes ≤ 16777216 → (lines_of bytes).whole ≡ head ∷ more → geometry_of head ≡ Err why
+abbrev pub IsBadFirstLine : Type 0
+IsBadFirstLine = (bytes first_line : List ℕ) (more : List (List ℕ)) (why : Why) → length bytes ≤ 16777216 → (lines_of bytes).whole ≡ first_line ∷ more → geometry_of first_line ≡ Err why
     → fault_of bytes ≡ Some (record { line = 1; why = why })
 
 -- lines that are good, and bytes after the last of them that no line feed ends
 pub record HasOpenLine (lines : Lines) (good : List (List ℕ)) : Type 0 where
-  pub head : List ℕ
-  pub parts : lines.whole ≡ head ∷ good
-  pub geometry : is_ok (geometry_of head) ≡ true
+  pub first_line : List ℕ
+  pub parts : lines.whole ≡ first_line ∷ good
+  pub geometry : is_ok (geometry_of first_line) ≡ true
   pub steps : AllByRecursion IsStepLine good
   pub first : ℕ
   pub more : List ℕ
@@ -62,8 +62,8 @@ IsShortLine = (bytes : List ℕ) (good : List (List ℕ)) → length bytes ≤ 1
     → fault_of bytes ≡ Some (record { line = length good + 2; why = Short })
 
 -- without a line feed line 1 is short
-abbrev pub IsShortHead : Type 0
-IsShortHead = (bytes : List ℕ) → length bytes ≤ 16777216 → (lines_of bytes).whole ≡ [] → fault_of bytes ≡ Some (record { line = 1; why = Short })
+abbrev pub IsShortFirstLine : Type 0
+IsShortFirstLine = (bytes : List ℕ) → length bytes ≤ 16777216 → (lines_of bytes).whole ≡ [] → fault_of bytes ≡ Some (record { line = 1; why = Short })
 
 -- too many bytes are before all other faults
 abbrev pub HasTooManyBytes : Type 0

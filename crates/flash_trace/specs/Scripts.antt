@@ -7,7 +7,7 @@ use Rattle.flash_names.specs.declared.geometry.Geometry.{Geometry}
 use Rattle.flash_names.specs.Numbers.{number_of}
 use Rattle.flash_names.specs.Words.{words}
 use Rattle.flash_entry.specs.declared.geometry_line.HeadFault.{HeadFault}
-use Rattle.flash_entry.specs.declared.geometry_line.HeadFault.TheVariants as head_faults
+use Rattle.flash_entry.specs.declared.geometry_line.HeadFault.TheVariants as line_faults
 use Rattle.flash_entry.specs.GeometryLine.{geometry_of_line}
 use Rattle.flash_trace.specs.declared.fault.Why.{Why}
 use Rattle.flash_trace.specs.declared.fault.Why.TheVariants.{BadWord, BadNumber, Short, TooLong}
@@ -20,7 +20,7 @@ use Rattle.flash_trace.specs.Steps.{Step, Clock, Say, Run}
 -- a script that has no bad line: the geometry of its first line, that line with its line feed, and its steps
 pub record Script : Type 0 where
   pub geometry : Geometry
-  pub head : List ℕ
+  pub first_line : List ℕ
   pub steps : List Step
 
 -- bytes by their lines: those that a line feed ends, without it, and what is after the last one
@@ -75,11 +75,11 @@ step_of_words (word ∷ more) text = elim (step_word word) [ None ↦ Err BadWor
 abbrev pub step_of : List ℕ → Result Step Why
 step_of line = step_of_words (words line) (behind_word (behind_word line))
 
--- why the first line is bad, by its fault as a head
+-- why the first line is bad, by its fault as a first_line
 abbrev pub why_of : HeadFault → Why
-why_of head_faults.BadWord = BadWord
-why_of head_faults.BadNumber = BadNumber
-why_of (head_faults.Geometry rule) = reasons.Geometry rule
+why_of line_faults.BadWord = BadWord
+why_of line_faults.BadNumber = BadNumber
+why_of (line_faults.Geometry rule) = reasons.Geometry rule
 
 -- the geometry of the first line, or why that line is bad
 abbrev pub geometry_of : List ℕ → Result Geometry Why
@@ -110,7 +110,7 @@ fault_from line bytes = let lines = lines_of bytes in steps_fault line lines.who
 abbrev pub lines_fault : Lines → Option ScriptFault
 lines_fault lines = elim lines.whole [
   | [] ↦ Some (record { line = 1; why = Short })
-  | head ∷ more ↦ fault_or 1 (geometry_of head) (steps_fault 2 more lines.rest)
+  | first_line ∷ more ↦ fault_or 1 (geometry_of first_line) (steps_fault 2 more lines.rest)
 ]
 
 -- the first bad line of a script, if it has one; a script has at most 16,777,216 bytes
@@ -124,14 +124,14 @@ steps_of (line ∷ more) = option_and_then (λ step. option_map (λ steps. step 
 
 -- the script of its parts, where they were all read
 abbrev pub script_of_parts : List ℕ → Option Geometry → Option (List Step) → Option Script
-script_of_parts head geometry steps =
-    option_and_then (λ g. option_map (λ all. record { geometry = g; head = head ++ 10 ∷ []; steps = all }) steps) geometry
+script_of_parts first_line geometry steps =
+    option_and_then (λ g. option_map (λ all. record { geometry = g; first_line = first_line ++ 10 ∷ []; steps = all }) steps) geometry
 
 -- the script of lines that were all read
 abbrev pub script_of_lines : Lines → Option Script
 script_of_lines lines = elim lines.whole [
   | [] ↦ None
-  | head ∷ more ↦ script_of_parts head (result_ok (geometry_of head)) (steps_of more)
+  | first_line ∷ more ↦ script_of_parts first_line (result_ok (geometry_of first_line)) (steps_of more)
 ]
 
 -- the reading of a script without a bad line

@@ -23,19 +23,19 @@ kept_of s = record { journal = entries_of s.told; cache = s.cache; desk = s.desk
 
 -- a session
 abbrev pub seat_of : code.Seat → Seat
-seat_of s = record { reader = reader_of s.session; waiting = waiting_of s.session; last = s.last; said = s.said.items; closed = s.closed }
+seat_of s = record { reader = reader_of s.session; waiting = waiting_of s.session; last = s.last; replies = s.replies.items; closed = s.closed }
 
 -- the sessions from 1 to 16
 abbrev pub seats_of : code_play.Play → List (Option Seat)
 seats_of p = map (option_map seat_of) p.seats.items
 
 -- what has happened so far, beside a store
-abbrev pub played : StoreState → code_play.Play → Play
-played kept p = record { kept = kept; printed = p.printed.items; seats = seats_of p }
+abbrev pub play_state : StoreState → code_play.Play → Play
+play_state kept p = record { kept = kept; printed = p.printed.items; seats = seats_of p }
 
 -- all that has happened so far
 abbrev pub state_of : Store → code_play.Play → Play
-state_of s p = played (kept_of s) p
+state_of s p = play_state (kept_of s) p
 
 -- the number of a session's next step
 abbrev pub next_id : Play → ℕ → Id

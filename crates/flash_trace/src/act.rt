@@ -52,7 +52,7 @@ impl Seat {
         ensures session { OnOk result (self.new.session ≡ self.old.session) }
     {
         match command {
-            Command::Refused(refusal) => reply_refusal(&mut self.said, *refusal),
+            Command::Refused(refusal) => reply_refusal(&mut self.replies, *refusal),
             Command::Get(key) => {
                 let id = self.next_id(session)?;
                 let look = Look {
@@ -60,12 +60,12 @@ impl Seat {
                     renew: None,
                 };
                 let found = core.look(alloc, id, key, look)?;
-                reply_found(&mut self.said, key, &found)
+                reply_found(&mut self.replies, key, &found)
             }
             Command::Store(put) => {
                 let id = self.next_id(session)?;
                 let stored = core.store(alloc, id, put)?;
-                reply_stored(&mut self.said, stored)
+                reply_stored(&mut self.replies, stored)
             }
         }
     }

@@ -2,7 +2,7 @@
 ghost use Rattle.flash_trace.specs.Answers.{EveryPlayIsRight};
 ghost use Rattle.flash_trace.specs.Ends.{EveryTraceIsRight};
 ghost use Rattle.flash_trace.specs.Fronts.{EachFrontMakesAFront};
-ghost use Rattle.flash_trace.specs.ScriptLaws.{AreReadOrBad, IsReadByLines, IsFirstBadLine, IsBadHead, IsShortLine, IsShortHead, HasTooManyBytes, HasSeats};
+ghost use Rattle.flash_trace.specs.ScriptLaws.{AreReadOrBad, IsReadByLines, IsFirstBadLine, IsBadFirstLine, IsShortLine, IsShortFirstLine, HasTooManyBytes, HasSeats};
 
 /// Bytes are read as a script, and in one way, exactly where no line of theirs is bad.
 pub fn each_script_is_read_or_bad()
@@ -20,9 +20,9 @@ pub fn the_first_bad_line_is_the_fault()
     ensures step { IsFirstBadLine }
 
     // A bad line 1 is the fault, and so is a last line that no line feed ends; too many bytes are before all.
-    ensures head { IsBadHead }
+    ensures first_line { IsBadFirstLine }
     ensures short { IsShortLine }
-    ensures short_head { IsShortHead }
+    ensures short_first_line { IsShortFirstLine }
     ensures long { HasTooManyBytes }
 {}
 

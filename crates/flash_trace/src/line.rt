@@ -35,7 +35,7 @@ pub enum Line {
 
 /// Reads a line without its line feed (after memcached's doc/protocol.txt, "Storage commands" and "Retrieval
 /// command"). A length above `item_max` makes an unknown line.
-pub fn read_line(line: &[u8], item_max: u32) -> Line
+pub fn read_command_line(line: &[u8], item_max: u32) -> Line
     ensures { result ≡ line_of item_max line.now }
 {
     match next_word(without_return(line)) {

@@ -3,7 +3,7 @@ ghost use Rattle.std.specs.Prelude.{◌≡◌, ◌++◌, ◌≤◌, length, map,
 ghost use Rattle.std.specs.Option.{option_map};
 ghost use Rattle.std.specs.List.{flat_map};
 ghost use Rattle.flash_entry.specs.EntryText.{entry_line};
-ghost use Rattle.flash_trace.specs.Output.{fault_text, journal_if, journal_text, played_text, session_text, sessions_text, why_text};
+ghost use Rattle.flash_trace.specs.Output.{fault_text, journal_if, journal_text, play_text, session_text, sessions_text, why_text};
 ghost use Rattle.flash_trace.specs.Seats.{seat_of, seats_of};
 
 use crate::fault::{ScriptFault, Why};
@@ -14,20 +14,20 @@ use std::alloc::{AllocError, Global};
 
 /// The output of a trace that ran: the printed lines, each session's replies, with `with_journal` the journal
 /// after the script's first line, and the number of steps.
-pub fn played_output(
+pub fn play_output(
     alloc: Global,
     play: &Play,
     with_journal: bool,
-    head: &[u8],
+    first_line: &[u8],
     journal: &[Entry],
     steps: usize,
 ) -> Result<Vec<u8>, AllocError>
-    ensures { IfOk result (λ out. out.items ≡ played_text play.now.printed.items (seats_of play.now) (journal_if with_journal head.now journal.now) steps) }
+    ensures { IfOk result (λ out. out.items ≡ play_text play.now.printed.items (seats_of play.now) (journal_if with_journal first_line.now journal.now) steps) }
 {
     let mut out = play.printed.to_vec(alloc)?;
     push_sessions(&mut out, &play.seats)?;
     if with_journal {
-        push_journal(alloc, &mut out, head, journal)?;
+        push_journal(alloc, &mut out, first_line, journal)?;
     }
     out.extend_from_slice(b"end ")?;
     push_number(&mut out, steps as u64)?;
@@ -55,24 +55,24 @@ fn push_session(out: &mut Vec<u8>, number: u64, seat: &Option<Seat>) -> Result<(
     out.extend_from_slice(b"session ")?;
     push_number(out, number)?;
     out.extend_from_slice(b" ")?;
-    push_number(out, seat.said.len() as u64)?;
+    push_number(out, seat.replies.len() as u64)?;
     out.extend_from_slice(b"\n")?;
-    out.extend_from_slice(&seat.said)?;
+    out.extend_from_slice(&seat.replies)?;
     out.extend_from_slice(b"\n")
 }
 
 fn push_journal(
     alloc: Global,
     out: &mut Vec<u8>,
-    head: &[u8],
+    first_line: &[u8],
     journal: &[Entry],
 ) -> Result<(), AllocError>
-    ensures { OnOk result (out.new.items ≡ out.old.items ++ journal_text head.now journal.now) }
+    ensures { OnOk result (out.new.items ≡ out.old.items ++ journal_text first_line.now journal.now) }
 {
     out.extend_from_slice(b"journal ")?;
     push_number(out, journal.len() as u64)?;
     out.extend_from_slice(b"\n")?;
-    out.extend_from_slice(head)?;
+    out.extend_from_slice(first_line)?;
     push_entries(alloc, out, journal)
 }
 

@@ -1,8 +1,8 @@
 ghost use Rattle.std.specs.Prelude.{◌≡◌, ◌-◌, not, [], ◌∷◌, ◌++◌, None, Some, decimal, length, replicate, slice_get, slice_set, if◌then◌else◌, IfOk, OnOk, IsTrue, is_some};
 ghost use Rattle.std.specs.Option.{ForSome, option_map};
-ghost use Rattle.flash_trace.specs.Playing.{StoreState, behind_turn, clock, fed_by, seat_or_new, play_step, run, say};
+ghost use Rattle.flash_trace.specs.Playing.{StoreState, seat_after_run, clock, seat_with_input, seat_or_new, play_step, run, say};
 ghost use Rattle.flash_trace.specs.CodeScripts.{step_meant, IsWithin};
-ghost use Rattle.flash_trace.specs.Seats.{seat_of, seats_of, played, state_of, AreSeats, TraceGoesOn, TakesUpTo};
+ghost use Rattle.flash_trace.specs.Seats.{seat_of, seats_of, play_state, state_of, AreSeats, TraceGoesOn, TakesUpTo};
 
 use crate::session::Session;
 use crate::step::{MAX_SESSIONS, SessionNumber, Step};
@@ -20,7 +20,7 @@ pub struct Seat {
     /// The number of its last step, 0 before the first.
     pub last: u64,
     /// Its replies, one after the other.
-    pub said: Vec<u8>,
+    pub replies: Vec<u8>,
     /// A turn of the session has met the end of its bytes: it takes no more.
     pub closed: bool,
 }
@@ -28,25 +28,25 @@ pub struct Seat {
 impl Seat {
     // Gives the session these bytes and a line end, and answers whether it took them: one that is closed takes
     // nothing.
-    fn hear(&mut self, said: &[u8]) -> Result<bool, AllocError>
+    fn take_input(&mut self, input: &[u8]) -> Result<bool, AllocError>
         ensures taken { IfOk result (λ taken. taken ≡ not self.old.closed) }
-        ensures heard { IfOk result (λ taken. seat_of self.new ≡ (if taken then fed_by self.old.session.item_max (seat_of self.old) said.now else seat_of self.old)) }
+        ensures heard { IfOk result (λ taken. seat_of self.new ≡ (if taken then seat_with_input self.old.session.item_max (seat_of self.old) input.now else seat_of self.old)) }
         ensures size { OnOk result (self.new.session.item_max ≡ self.old.session.item_max) }
     {
         if self.closed {
             return Ok(false);
         }
-        self.session.feed(said)?;
+        self.session.feed(input)?;
         self.session.feed(b"\r\n")?;
         Ok(true)
     }
 
     // Ends a turn of the session: it is closed where its reader has met an end.
-    fn end_turn(&mut self)
-        ensures ended { seat_of self.new ≡ behind_turn (seat_of self.old) }
+    fn end_run(&mut self)
+        ensures ended { seat_of self.new ≡ seat_after_run (seat_of self.old) }
         ensures size { self.new.session.item_max ≡ self.old.session.item_max }
     {
-        self.closed = self.session.label_has_ended();
+        self.closed = self.session.is_at_end();
     }
 }
 
@@ -94,8 +94,8 @@ impl Play {
         match step {
             Step::Clock(reading) => self.clock(core, reading, line),
             Step::Say(session, first, last) => {
-                let said = &script[first as usize..last as usize];
-                self.say(alloc, &core.geometry(), session, said, line)
+                let input = &script[first as usize..last as usize];
+                self.say(alloc, &core.geometry(), session, input, line)
             }
             Step::Run(session) => self.run(alloc, core, session),
         }
@@ -124,15 +124,15 @@ impl Play {
         alloc: Global,
         geometry: &Geometry,
         session: SessionNumber,
-        said: &[u8],
+        input: &[u8],
         line: u64,
     ) -> Result<(), AllocError>
         requires seats { AreSeats geometry.now.item_max self.old.seats.items }
-        ensures done { OnOk result ((kept : StoreState) → played kept self.new ≡ say geometry.now (played kept self.old) line session.number said.now) }
+        ensures done { OnOk result ((kept : StoreState) → play_state kept self.new ≡ say geometry.now (play_state kept self.old) line session.number input.now) }
         ensures seats { OnOk result (AreSeats geometry.now.item_max self.new.seats.items) }
     {
         let mut seat = self.take_seat(alloc, geometry.item_max, session);
-        let taken = seat.hear(said)?;
+        let taken = seat.take_input(input)?;
         self.put_seat(session, seat);
         self.print_unless(taken, b"closed", line)
     }
@@ -153,7 +153,7 @@ impl Play {
         let mut seat = self.take_seat(alloc, core.geometry().item_max, session);
         let commands = seat.session.take_commands();
         seat.do_all(alloc, core, session, &commands)?;
-        seat.end_turn();
+        seat.end_run();
         self.put_seat(session, seat);
         Ok(())
     }
@@ -166,7 +166,7 @@ impl Play {
         ensures seats { self.new.seats.items ≡ slice_set self.old.seats.items (session.number - 1) None }
         ensures printed { self.new.printed.items ≡ self.old.printed.items }
     {
-        let made = std::mem::replace(&mut self.seats[session.place()], None);
+        let made = std::mem::replace(&mut self.seats[session.index()], None);
         made_or_new(alloc, item_max, made)
     }
 
@@ -176,7 +176,7 @@ impl Play {
         ensures seats { self.new.seats.items ≡ slice_set self.old.seats.items (session.number - 1) (Some seat) }
         ensures printed { self.new.printed.items ≡ self.old.printed.items }
     {
-        self.seats[session.place()] = Some(seat);
+        self.seats[session.index()] = Some(seat);
     }
 
     // Prints the word and the line's number where it wasn't done.
@@ -205,7 +205,7 @@ fn made_or_new(alloc: Global, item_max: u32, made: Option<Seat>) -> Seat
         None => Seat {
             session: Session::new(alloc, item_max),
             last: 0,
-            said: Vec::new(alloc),
+            replies: Vec::new(alloc),
             closed: false,
         },
     }

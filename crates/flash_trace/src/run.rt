@@ -13,7 +13,7 @@ ghost use Rattle.flash_trace.specs.Seats.{TraceGoesOn, state_of};
 
 use crate::fault::Status;
 use crate::laws::every_trace_is_right;
-use crate::output::{fault_output, played_output};
+use crate::output::{fault_output, play_output};
 use crate::play::Play;
 use crate::script::{MAX_BYTES, NotRead, Script, read_script};
 use crate::step::Step;
@@ -49,18 +49,18 @@ pub fn run_trace<S: Source, K: Sink, D: Device>(
     ensures complete { IsComplete (journal_wanted words.now) (S.left source.old) (Rose (S.faults source.old) (S.faults source.new)) (Rose (K.faults sink.old) (K.faults sink.new)) (Rose (D.faults device.old) (D.faults device.new)) result }
 {
     every_trace_is_right();
-    let Some(with_journal) = read_words(words) else {
+    let Some(with_journal) = read_trace_words(words) else {
         return Status::Usage;
     };
     match read_all(alloc, source) {
-        Ok(bytes) => trace(alloc, with_journal, &bytes, sink, device),
+        Ok(bytes) => run_bytes(alloc, with_journal, &bytes, sink, device),
         Err(ReadError::Fault) => Status::SourceFault,
         Err(ReadError::NoMemory) => Status::NoMemory,
     }
 }
 
 // Whether the journal is wanted, where the words are those of a trace.
-fn read_words(words: &[Blob]) -> Option<bool>
+fn read_trace_words(words: &[Blob]) -> Option<bool>
     ensures { result ≡ journal_wanted words.now }
 {
     match words {
@@ -130,7 +130,7 @@ fn new_piece(alloc: Global) -> Result<Vec<u8>, AllocError>
 }
 
 // Runs the script of these bytes, and writes its output.
-fn trace<K: Sink, D: Device>(
+fn run_bytes<K: Sink, D: Device>(
     alloc: Global,
     with_journal: bool,
     bytes: &[u8],
@@ -165,7 +165,7 @@ fn run_script<K: Sink, D: Device>(
     device: &mut D,
 ) -> Status
     requires reading { script_of bytes.now ≡ Some (script_meant bytes.now script.now) }
-    requires head { script.now.head_end ≤ length bytes.now }
+    requires first_line { script.now.steps_offset ≤ length bytes.now }
     requires within { AreWithin (length bytes.now) script.now.steps.items }
     ensures device { IsAsked (device.new ≡ device.old) (Called false (D.calls device.old) (D.calls device.new)) (Called true (D.calls device.old) (D.calls device.new)) (fault_of bytes.now ≡ None) result }
     ensures ends { Ends bytes.now with_journal (sink.new ≡ sink.old) (Rose (K.faults sink.old) (K.faults sink.new)) (Rose (D.faults device.old) (D.faults device.new)) (D.prepared device.new) (K.held sink.old) (K.held sink.new) result }
@@ -191,21 +191,21 @@ fn play_script(
     bytes: &[u8],
     script: &Script,
 ) -> Result<Vec<u8>, AllocError>
-    requires head { script.now.head_end ≤ length bytes.now }
+    requires first_line { script.now.steps_offset ≤ length bytes.now }
     requires within { AreWithin (length bytes.now) script.now.steps.items }
     ensures { IfOk result (λ out. out.items ≡ output (script_meant bytes.now script.now) with_journal) }
 {
-    // The geometry was checked as the head was read, so only memory can run out.
+    // The geometry was checked as the first_line was read, so only memory can run out.
     let Ok(mut core) = Core::open(alloc, script.geometry, Kept::new(alloc)) else {
         return Err(AllocError);
     };
     let mut play = Play::new(alloc)?;
     play_steps(alloc, &mut core, &mut play, bytes, &script.steps)?;
-    played_output(
+    play_output(
         alloc,
         &play,
         with_journal,
-        &bytes[..script.head_end],
+        &bytes[..script.steps_offset],
         core.journal().entries(),
         script.steps.len(),
     )

@@ -23,7 +23,7 @@ pub struct Script {
     /// The geometry of line 1.
     pub geometry: Geometry,
     /// The place after the line feed of line 1, in bytes.
-    pub head_end: usize,
+    pub steps_offset: usize,
     /// The steps of the lines after it, in order.
     pub steps: Vec<Step>,
 }
@@ -59,7 +59,7 @@ pub enum StepWord {
 /// Reads a script, or finds its first bad line.
 pub fn read_script(alloc: Global, bytes: &[u8]) -> Result<Script, NotRead>
     ensures read { IfOk result (λ script. script_of bytes.now ≡ Some (script_meant bytes.now script)) }
-    ensures head { IfOk result (λ script. script.head_end ≤ length bytes.now) }
+    ensures first_line { IfOk result (λ script. script.steps_offset ≤ length bytes.now) }
     ensures within { IfOk result (λ script. AreWithin (length bytes.now) script.steps.items) }
     ensures seated { IfOk result (λ script. AreSeated (script_meant bytes.now script).steps) }
     ensures bad { IfErr result (IsFault (fault_of bytes.now)) }
@@ -67,18 +67,18 @@ pub fn read_script(alloc: Global, bytes: &[u8]) -> Result<Script, NotRead>
     if bytes.len() > MAX_BYTES {
         return Err(bad(0, Why::TooLong));
     }
-    let Some((head, _)) = cut_at_byte(b'\n', bytes) else {
+    let Some((first_line, _)) = cut_at_byte(b'\n', bytes) else {
         return Err(bad(1, Why::Short));
     };
-    let geometry = match read_head(head) {
+    let geometry = match read_head(first_line) {
         Ok(geometry) => geometry,
         Err(fault) => return Err(bad(1, why_of(fault))),
     };
-    let head_end = head.len() + 1;
-    let steps = read_steps(alloc, bytes, head_end)?;
+    let steps_offset = first_line.len() + 1;
+    let steps = read_steps(alloc, bytes, steps_offset)?;
     Ok(Script {
         geometry,
-        head_end,
+        steps_offset,
         steps,
     })
 }
@@ -100,22 +100,22 @@ fn why_of(fault: HeadFault) -> Why
 }
 
 // The steps of the lines after the first one, which ends at this place.
-fn read_steps(alloc: Global, bytes: &[u8], head_end: usize) -> Result<Vec<Step>, NotRead>
-    requires within { head_end ≤ length bytes.now }
+fn read_steps(alloc: Global, bytes: &[u8], steps_offset: usize) -> Result<Vec<Step>, NotRead>
+    requires within { steps_offset ≤ length bytes.now }
     requires small { length bytes.now ≤ 16777216 }
-    ensures good { IfOk result (λ _. fault_from 2 (drop head_end bytes.now) ≡ None) }
-    ensures read { IfOk result (λ steps. steps_of (lines_of (drop head_end bytes.now)).whole ≡ Some (map (step_meant bytes.now) steps.items)) }
+    ensures good { IfOk result (λ _. fault_from 2 (drop steps_offset bytes.now) ≡ None) }
+    ensures read { IfOk result (λ steps. steps_of (lines_of (drop steps_offset bytes.now)).whole ≡ Some (map (step_meant bytes.now) steps.items)) }
     ensures within { IfOk result (λ steps. AreWithin (length bytes.now) steps.items) }
-    ensures bad { IfErr result (IsFault (fault_from 2 (drop head_end bytes.now))) }
+    ensures bad { IfErr result (IsFault (fault_from 2 (drop steps_offset bytes.now))) }
 {
     let mut steps = Vec::new(alloc);
-    let mut start = head_end;
+    let mut start = steps_offset;
     'lines: while start < bytes.len() {
         if steps.len() >= MAX_STEPS {
             return Err(bad(0, Why::TooLong));
         }
         let line = steps.len() as u32 + 2;
-        match read_line(bytes, start) {
+        match read_step_line(bytes, start) {
             Ok((step, next)) => {
                 steps.push(step)?;
                 start = next;
@@ -127,7 +127,7 @@ fn read_steps(alloc: Global, bytes: &[u8], head_end: usize) -> Result<Vec<Step>,
 }
 
 // The step of the line that begins at this place, and where the next one begins.
-fn read_line(bytes: &[u8], start: usize) -> Result<(Step, usize), Why>
+fn read_step_line(bytes: &[u8], start: usize) -> Result<(Step, usize), Why>
     requires within { start ≤ length bytes.now }
     requires small { length bytes.now ≤ 16777216 }
     ensures cut { IfOk result (λ read. cut_at 10 (drop start bytes.now) ≡ Some (slice_range bytes.now start (read.1 - 1), drop read.1 bytes.now)) }
@@ -161,15 +161,15 @@ fn read_step(bytes: &[u8], start: usize, end: usize) -> Result<Step, Why>
     let Some(rest) = rest else {
         return Err(Why::BadWord);
     };
-    let (number, said) = split_word(rest);
-    match (word, said) {
+    let (number, input) = split_word(rest);
+    match (word, input) {
         (StepWord::Clock, None) => read_number(number).map(Step::Clock).ok_or(Why::BadNumber),
         (StepWord::Run, None) => read_session(number).map(Step::Run).ok_or(Why::BadNumber),
-        (StepWord::Say, Some(said)) => {
+        (StepWord::Say, Some(input)) => {
             let Some(session) = read_session(number) else {
                 return Err(Why::BadNumber);
             };
-            Ok(Step::Say(session, (end - said.len()) as u32, end as u32))
+            Ok(Step::Say(session, (end - input.len()) as u32, end as u32))
         }
         _ => Err(Why::BadWord),
     }

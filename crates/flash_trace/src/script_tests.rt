@@ -161,8 +161,8 @@ fn step_meant<'a>(bytes: &'a [u8], step: Step) -> Meant<'a> {
     match step {
         Step::Clock(reading) => Meant::Clock(reading),
         Step::Say(session, first, last) => {
-            let said = bytes.get(first as usize..last as usize).unwrap_or(&[]);
-            Meant::Say(session.number, said)
+            let input = bytes.get(first as usize..last as usize).unwrap_or(&[]);
+            Meant::Say(session.number, input)
         }
         Step::Run(session) => Meant::Run(session.number),
     }
@@ -187,7 +187,7 @@ fn steps(rt: HostRuntime) -> Result<(), Fail> {
         let Ok(script) = read(rt.alloc(), &bytes)? else {
             panic!(rt; "{line}");
         };
-        assert_eq!(rt; script.head_end, HEAD.len());
+        assert_eq!(rt; script.steps_offset, HEAD.len());
         assert_eq!(rt; script.geometry.memory, 4096);
         assert_eq!(rt; script.steps.len(), 1);
         assert_eq!(rt; step_meant(&bytes, script.steps[0]), wanted, "{line}");

@@ -5,7 +5,7 @@ ghost use Rattle.flash_trace.specs.declared.session.TheConstants.{LINE_LIMIT};
 ghost use Rattle.flash_trace.specs.Lines.{with_feed};
 
 use crate::command::{Command, Refusal};
-use crate::line::{Line, SetLine, read_line};
+use crate::line::{Line, SetLine, read_command_line};
 use flash_entry::{Mode, Put};
 use flash_names::{Blob, cut_at_byte};
 use std::alloc::{AllocError, Global};
@@ -52,7 +52,7 @@ impl Session {
     ghost use Rattle.std.specs.Prelude.{◌≡◌, ◌<◌, [], length, OnOk, IfOk};
     ghost use Rattle.std.specs.Option.{option_to_list};
     ghost use Rattle.flash_trace.specs.Lines.{line_of};
-    ghost use Rattle.flash_trace.specs.Commands.{InLine, InBlock, Behind, Skipping, label_has_ended, line_read, block_of, behind_block, in_skip, after_skip};
+    ghost use Rattle.flash_trace.specs.Commands.{InLine, InBlock, Behind, Skipping, is_at_end, line_read, block_of, behind_block, in_skip, after_skip};
     ghost use Rattle.flash_trace.specs.Sessions.{reader_at, reader_of, waiting_of, Took, Reads, LeavesRest};
 
     /// A session that was given nothing. Its values have at most `item_max` bytes.
@@ -71,8 +71,8 @@ impl Session {
     }
 
     /// Whether its reader has met an end: nothing more is read.
-    pub fn label_has_ended(&self) -> bool
-        ensures { result ≡ label_has_ended (reader_of self.now) }
+    pub fn is_at_end(&self) -> bool
+        ensures { result ≡ is_at_end (reader_of self.now) }
     {
         matches!(self.reading, Reading::Ended)
     }
@@ -138,7 +138,7 @@ impl Session {
     fn end_line(&mut self) -> Result<(), AllocError>
         ensures { OnOk result (Took self.old (line_read (line_of self.old.item_max self.old.part.items)) self.new) }
     {
-        let line = read_line(&self.part, self.item_max);
+        let line = read_command_line(&self.part, self.item_max);
         self.begin_line();
         match line {
             Line::Get(key) => self.commands.push(Command::Get(key))?,

@@ -31,8 +31,8 @@ impl SessionNumber {
     }
 
     /// Its place among the sessions, counted from 0.
-    pub fn place(self) -> usize
-        ensures place { result + 1 ≡ self.number }
+    pub fn index(self) -> usize
+        ensures index { result + 1 ≡ self.number }
         ensures within { result < MAX_SESSIONS }
     {
         self.number as usize - 1

@@ -64,7 +64,7 @@ fn traced(
     Ok((status, sink.bytes().to_vec(alloc)?))
 }
 
-// What a script of this head and these steps writes.
+// What a script of this first_line and these steps writes.
 fn written(alloc: Global, words: &[&str], steps: &str) -> Result<Vec<u8>, AllocError> {
     let mut script = HEAD.as_bytes().to_vec(alloc)?;
     script.extend_from_slice(steps.as_bytes())?;
@@ -219,7 +219,7 @@ fn expires_values(rt: HostRuntime) -> Result<(), Fail> {
         let (status, out) = traced(
             rt.alloc(),
             &["trace"],
-            &with_head(rt.alloc(), &steps)?,
+            &with_first_line(rt.alloc(), &steps)?,
             NONE,
         )?;
         assert_eq!(rt; status, Status::Done);
@@ -236,7 +236,7 @@ fn push_all(out: &mut Vec<u8>, texts: &[&str]) -> Result<(), AllocError> {
     Ok(())
 }
 
-fn with_head(alloc: Global, steps: &[u8]) -> Result<Vec<u8>, AllocError> {
+fn with_first_line(alloc: Global, steps: &[u8]) -> Result<Vec<u8>, AllocError> {
     let mut script = HEAD.as_bytes().to_vec(alloc)?;
     script.extend_from_slice(steps)?;
     Ok(script)
@@ -264,7 +264,7 @@ fn ends_a_session(rt: HostRuntime) -> Result<(), Fail> {
             steps.push(b'x')?;
         }
         push_all(&mut steps, &[later])?;
-        let (_, out) = traced(alloc, &["trace"], &with_head(alloc, &steps)?, NONE)?;
+        let (_, out) = traced(alloc, &["trace"], &with_first_line(alloc, &steps)?, NONE)?;
         assert_eq!(rt; out.as_slice(), wanted.as_bytes());
     }
     Ok(())

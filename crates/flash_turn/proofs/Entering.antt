@@ -16,7 +16,7 @@ use Rattle.flash_turn.specs.Steps.{Self, DrawsAt, Looks}
 use Rattle.flash_turn.proofs.Totals.{total-set, total_same, total_lt, total_few, some_most, at_here}
 use Rattle.flash_turn.proofs.Lists.{each_set}
 use Rattle.flash_turn.proofs.Queues.{queue_draws, queue_same}
-use Rattle.flash_turn.proofs.Numbers.{numbered_same}
+use Rattle.flash_turn.proofs.Numbers.{numbered_same, own_some}
 
 -- who has the value holds the served ticket
 holder_le : (served : ℕ) (b : Bool) (o : Option ℕ) → (b ≡ true → o ≡ Some served) → cond b 1 0 ≤ one_if_at served o
@@ -26,16 +26,16 @@ holder_le served false o h = omega arith
 module _ {T E O F A : Type 0} (story : T → Option (List E)) (own : T → List (ℕ × O)) (fixed : T → F) where
   -- a step that changes no word and takes no slot, after which the pass still holds what it held
   pub quiet : (s : State (Option (Box T A)) (View T)) (id : ℕ) (v w : View T) (words : List ℕ) (kept : LockRule story own fixed s) → get_elem? s.views id ≡ some v → words ≡ s.words
-      → w.numbers ≡ v.numbers → w.spare ≡ v.spare → w.over ≡ v.over → w.ticket ≡ v.ticket → w.has ≡ v.has → Knows story own fixed kept.served kept.value w
+      → w.numbers ≡ v.numbers → w.pending ≡ v.pending → w.over ≡ v.over → w.draws ≡ v.draws → w.ticket ≡ v.ticket → w.has ≡ v.has → Knows story own fixed kept.served kept.value w
       → LockRule story own fixed (record { words = words; homes = s.homes; views = set s.views id w })
-  quiet s id v w words kept here same numbers spare over ticket has knows = record {
+  quiet s id v w words kept here same numbers pending over draws ticket has knows = record {
     drawn = kept.drawn;
     served = kept.served;
     next = kept.next;
     value = kept.value;
     words = same ∙ kept.words;
     queue = queue_same kept.drawn kept.served s.views id v w here ticket kept.queue;
-    numbered = numbered_same kept.next s.views id v w here numbers spare over kept.numbered;
+    numbered = numbered_same kept.next s.views id v w here numbers pending over draws kept.numbered;
     home = λ nobody. kept.home (sym (total_same holds_value s.views id v w here (ap (λ b. cond b 1 0) has)) ∙ nobody);
     known = each_set (Knows story own fixed kept.served kept.value) (Knows story own fixed kept.served kept.value) s.views id w kept.known (λ j u other there ok. ok) knows;
     unknown = λ x nobody. kept.unknown x (sym (total_same (given x) s.views id v w here (ap (times x) numbers)) ∙ nobody);
@@ -54,7 +54,7 @@ module _ {T E O F A : Type 0} (story : T → Option (List E)) (own : T → List 
         value = kept.value;
         words = ap (λ l. slice_set l 0 ((slice_index l 0 + 1) % 2 ^ 64)) kept.words ∙ ap (λ k. k ∷ kept.served % 2 ^ 64 ∷ kept.next ∷ []) (mod-add-mod kept.drawn (2 ^ 64) 1);
         queue = queue_draws kept.drawn kept.served s.views id v w here empty refl kept.queue;
-        numbered = numbered_same kept.next s.views id v w here refl refl refl kept.numbered;
+        numbered = numbered_same kept.next s.views id v w here refl refl refl refl kept.numbered;
         home = λ nobody. kept.home (sym (total_same holds_value s.views id v w here refl) ∙ nobody);
         known = each_set (Knows story own fixed kept.served kept.value) (Knows story own fixed kept.served kept.value) s.views id w kept.known (λ j u other there ok. ok)
             (record { seen = knows.seen; met = knows.met; left = knows.left; out = λ has. let o = knows.out has in absurd (cc (empty, o.0)) });
@@ -81,7 +81,7 @@ module _ {T E O F A : Type 0} (story : T → Option (List E)) (own : T → List 
         keeps,
         tt,
         subst (λ b. LockRule story own fixed (after v (either b ((old + 1) % 2 ^ 64) x))) (sym (ne_eqb x old miss))
-            (quiet s id v v (slice_set s.words 0 x) kept here (ap (λ l. slice_set l 0 (slice_index l 0)) kept.words ∙ sym kept.words) refl refl refl refl refl (kept.known id v here)),
+            (quiet s id v v (slice_set s.words 0 x) kept here (ap (λ l. slice_set l 0 (slice_index l 0)) kept.words ∙ sym kept.words) refl refl refl refl refl refl (kept.known id v here)),
         ((λ hit. absurd (miss hit)), (λ _. refl)),
       ))
 
@@ -109,7 +109,7 @@ module _ {T E O F A : Type 0} (story : T → Option (List E)) (own : T → List 
         value = kept.value;
         words = ap (λ l. slice_set l 1 (slice_index l 1)) kept.words;
         queue = queue_same kept.drawn kept.served s.views id v w here refl kept.queue;
-        numbered = numbered_same kept.next s.views id v w here refl refl refl kept.numbered;
+        numbered = numbered_same kept.next s.views id v w here refl refl refl refl kept.numbered;
         home = λ nobody. absurd (omega arith);
         known = each_set (Knows story own fixed kept.served kept.value) (Knows story own fixed kept.served kept.value) s.views id w kept.known (λ j u other there ok. ok)
             (record { seen = knows.seen; met = knows.met; left = knows.left; out = λ has. (at ∙ ap Some (sym is), ap Some same) });
@@ -142,7 +142,7 @@ module _ {T E O F A : Type 0} (story : T → Option (List E)) (own : T → List 
             b,
             refl,
             (λ x e'. let P : T → Type 0 = λ y. Begins (story x) (story y) × (fixed y ≡ fixed x) in subst P (sym home.2) (knows.seen x e')),
-            (λ n joined e'. ap (λ y. own_of n (own y)) home.2 ∙ knows.left n joined e'),
+            (λ n joined e'. (own_some kept.next s.views id v v n joined kept.numbered here e', ap (λ y. own_of n (own y)) home.2 ∙ knows.left n joined e')),
           )),
           (λ ne. absurd (ne (word ∙ (e ∙ (let same : k ≡ j = cc (at, at') in ap (λ x. x % 2 ^ 64) same))))),
         ),
@@ -151,7 +151,7 @@ module _ {T E O F A : Type 0} (story : T → Option (List E)) (own : T → List 
         v,
         keeps,
         tt,
-        quiet s id v v (slice_set s.words 1 (slice_index s.words 1)) kept here (ap (λ l. slice_set l 1 (slice_index l 1)) kept.words ∙ sym kept.words) refl refl refl refl refl knows,
+        quiet s id v v (slice_set s.words 1 (slice_index s.words 1)) kept here (ap (λ l. slice_set l 1 (slice_index l 1)) kept.words ∙ sym kept.words) refl refl refl refl refl refl knows,
         λ j at'. ((λ e. let same : k ≡ j = cc (at, at') in absurd (n (sym word ∙ (e ∙ sym (ap (λ x. x % 2 ^ 64) same))))), (λ _. refl)),
       ))
 

@@ -23,7 +23,7 @@ pass_of fixed turn pass v table e idle knows = record {
   idle = record {
     joined = idle.joined;
     numbers = ap (λ m. m.0.numbers) e ∙ idle.numbers;
-    spare = ap (λ m. m.0.spare) e ∙ idle.spare;
+    pending = ap (λ m. m.0.pending) e ∙ idle.pending;
     over = ap (λ m. m.0.over) e ∙ idle.over;
     ticket = ap (λ m. m.0.ticket) e ∙ idle.ticket;
     has = ap (λ m. m.0.has) e ∙ idle.has;
@@ -34,22 +34,29 @@ pass_of fixed turn pass v table e idle knows = record {
   knows = knows;
 }
 
+-- a pass that has drawn a number for another
+abbrev pub drew : {T : Type 0} → View T → ℕ → View T
+drew v n = record v { draws = n ∷ v.draws }
+
+abbrev pub drew_idle : {T : Type 0} (number : ℕ) (v : View T) → IsIdle number v → (n : ℕ) → IsIdle number (drew v n)
+drew_idle number v idle n = record { joined = idle.joined; numbers = idle.numbers; pending = idle.pending; over = idle.over; ticket = idle.ticket; has = idle.has; met = idle.met; last = idle.last; seen = idle.seen }
+
 -- a pass that was split off
 abbrev pub new_idle : {T : Type 0} (n : ℕ) (v : View T) (idle : IsIdle n v) (number : ℕ) → IsIdle number (new_view number v.seen)
-new_idle n v idle number = record { joined = []; numbers = refl; spare = refl; over = refl; ticket = refl; has = refl; met = refl; last = idle.last; seen = idle.seen }
+new_idle n v idle number = record { joined = []; numbers = refl; pending = refl; over = refl; ticket = refl; has = refl; met = refl; last = idle.last; seen = idle.seen }
 
 abbrev pub first_idle : {T : Type 0} (value : T) → IsIdle 1 (first_view value)
-first_idle value = record { joined = []; numbers = refl; spare = refl; over = refl; ticket = refl; has = refl; met = refl; last = value; seen = refl }
+first_idle value = record { joined = []; numbers = refl; pending = refl; over = refl; ticket = refl; has = refl; met = refl; last = value; seen = refl }
 
 -- a pass that has given the value back
 abbrev pub left_idle : {T : Type 0} (number : ℕ) (v : View T) (value : T) → IsHolding number v → IsIdle number (record v { ticket = None; has = false; seen = Some value; left = Some value })
-left_idle number v value h = record { joined = h.joined; numbers = h.numbers; spare = h.spare; over = h.over; ticket = refl; has = refl; met = h.met; last = value; seen = refl }
+left_idle number v value h = record { joined = h.joined; numbers = h.numbers; pending = h.pending; over = h.over; ticket = refl; has = refl; met = h.met; last = value; seen = refl }
 
 pub served : {T A : Type 0} (m n : Self T A) (r : ℕ) (v : View T) (b : Box T A) → m ≡ (v, (0, Some b) ∷ []) → Serves m r n → n ≡ (record v { ticket = None; has = false; seen = Some b.value; left = Some b.value }, [])
 served m n r v b e tells = tells b (ap (λ x. x.1) e) ∙ ap (λ x. (record x { ticket = None; has = false; seen = Some b.value; left = Some b.value }, [])) (ap (λ x. x.0) e)
 
 abbrev pub taken_holding : {T : Type 0} (number k : ℕ) (v : View T) (value : T) → IsIdle number v → IsHolding number (record v { ticket = Some k; has = true; took = Some value })
-taken_holding number k v value h = record { joined = h.joined; ticketed = k; numbers = h.numbers; spare = h.spare; over = h.over; ticket = refl; has = refl; met = h.met }
+taken_holding number k v value h = record { joined = h.joined; ticketed = k; numbers = h.numbers; pending = h.pending; over = h.over; ticket = refl; has = refl; met = h.met }
 
 -- the same of what the code holds
 pub holding_of : {T A : Type 0} (number : ℕ) (m : Self T A) (v : View T) (c : List (ℕ × Option (Box T A))) → m ≡ (v, c) → IsHolding number v → IsHolding number m.0
@@ -57,7 +64,7 @@ holding_of number m v c e h = record {
   joined = h.joined;
   ticketed = h.ticketed;
   numbers = ap (λ x. x.0.numbers) e ∙ h.numbers;
-  spare = ap (λ x. x.0.spare) e ∙ h.spare;
+  pending = ap (λ x. x.0.pending) e ∙ h.pending;
   over = ap (λ x. x.0.over) e ∙ h.over;
   ticket = ap (λ x. x.0.ticket) e ∙ h.ticket;
   has = ap (λ x. x.0.has) e ∙ h.has;
@@ -74,7 +81,8 @@ module _ {T E O F A : Type 0} (story : T → Option (List E)) (own : T → List 
   meets turn pass m n k of is t =
       let seen = t.2 of.idle.last (ap (λ x. x.0.seen) is ∙ of.idle.seen) in record {
         begins = subst (λ o. Begins (option_and_then story o) (story t.0.value)) (sym of.idle.seen) seen.0;
-        as_left = t.3 pass.number of.idle.joined (ap (λ x. x.0.numbers) is ∙ of.idle.numbers) ∙ ap (λ x. things_left own pass.number x.0.left) is;
+        numbered = (t.3 pass.number of.idle.joined (ap (λ x. x.0.numbers) is ∙ of.idle.numbers)).0;
+        as_left = (t.3 pass.number of.idle.joined (ap (λ x. x.0.numbers) is ∙ of.idle.numbers)).1 ∙ ap (λ x. things_left own pass.number x.0.left) is;
         same_fixed = seen.1 ∙ of.knows;
       }
 

@@ -11,8 +11,7 @@ use Rattle.flash_turn.specs.Counts.{times}
 use Rattle.flash_turn.specs.Steps.{Self, Compares, joined_view, with_longer}
 use Rattle.flash_turn.specs.Passes.{view_of, seen, IsIdle, IsPassOf}
 use Rattle.flash_turn.specs.Joining.{Joined}
-use Rattle.flash_turn.proofs.Totals.{times-append}
-use Rattle.flash_turn.proofs.Leaving.{first_times}
+use Rattle.flash_turn.proofs.Totals.{first_times, times-append}
 use Rattle.flash_turn.proofs.Joining.{longer_seen}
 use Rattle.flash_turn.proofs.Handed.{pass_of}
 
@@ -35,7 +34,7 @@ module _ {T E O F : Type 0} (story : T → Option (List E)) (own : T → List (�
       let idle : IsIdle old.number (compared v w) = record {
         joined = is-old.idle.joined ++ w.numbers;
         numbers = ap (λ l. l ++ w.numbers) is-old.idle.numbers;
-        spare = is-old.idle.spare;
+        pending = is-old.idle.pending;
         over = is-old.idle.over;
         ticket = is-old.idle.ticket;
         has = is-old.idle.has;

@@ -24,9 +24,9 @@ module _ {T E F : Type 0} (story : T → Option (List E)) (fixed : T → F) wher
   picks x y value p q false is = (x, refl, begins_self (story x), begins_shorter (story y) (story x) (story value) q.0 p.0 (let l : told_length (story y) ≤ told_length (story x) = grind (arith, nat_tests) in l), p)
 
 module _ {T E O F A : Type 0} (story : T → Option (List E)) (own : T → List (ℕ × O)) (fixed : T → F) where
-  pub joins : (id other : ℕ) (v w : View T) (n : ℕ) (joined : List ℕ) → v.numbers ≡ n ∷ joined → w.ticket ≡ None → w.has ≡ false → w.spare ≡ None → w.over ≡ false
+  pub joins : (id other : ℕ) (v w : View T) (n : ℕ) (joined : List ℕ) → v.numbers ≡ n ∷ joined → w.ticket ≡ None → w.has ≡ false → w.pending ≡ None → w.over ≡ false
       → Joins {S = Option (Box T A)} (LockRule story own fixed) id v other w (joined_view v w) spent_view
-  joins id other v w n joined numbers w-ticket w-has w-spare w-over s kept here apart there =
+  joins id other v w n joined numbers w-ticket w-has w-pending w-over s kept here apart there =
       let both : View T = joined_view v w in
       let mid : List (View T) = set s.views id both in
       let knows = kept.known id v here in
@@ -38,7 +38,8 @@ module _ {T E O F A : Type 0} (story : T → Option (List E)) (own : T → List 
         value = kept.value;
         words = kept.words;
         queue = queue_same kept.drawn kept.served mid other w spent_view there (sym w-ticket) (queue_same kept.drawn kept.served s.views id v both here refl kept.queue);
-        numbered = numbered_joins kept.next s.views id other v w both here there refl refl refl w-spare w-over kept.numbered;
+        numbered = numbered_joins kept.next s.views id other v w both here there refl refl refl refl w-pending w-over
+            (kept.numbered.past other w (sym (set_else s.views id other both apart) ∙ there)) kept.numbered;
         home = λ nobody. kept.home (let a = total_same holds_value s.views id v both here refl in let b = total_same holds_value mid other w spent_view there (sym (ap (λ c. cond c 1 0) w-has)) in omega arith);
         known = each_set (Knows story own fixed kept.served kept.value) (Knows story own fixed kept.served kept.value) mid other spent_view
             (each_set (Knows story own fixed kept.served kept.value) (Knows story own fixed kept.served kept.value) s.views id both kept.known (λ j u rest there' ok. ok)
@@ -62,7 +63,7 @@ module _ {T E O F A : Type 0} (story : T → Option (List E)) (own : T → List 
         w,
         keeps,
         tt,
-        quiet story own fixed s id v w (slice_set s.words 0 (slice_index s.words 0)) kept here (ap (λ l. slice_set l 0 (slice_index l 0)) kept.words ∙ sym kept.words) refl refl refl refl refl
+        quiet story own fixed s id v w (slice_set s.words 0 (slice_index s.words 0)) kept here (ap (λ l. slice_set l 0 (slice_index l 0)) kept.words ∙ sym kept.words) refl refl refl refl refl refl
             (record {
               seen = λ u e. let same : p.0 ≡ u = cc (is, e) in subst (λ z. Begins (story z) (story kept.value) × (fixed kept.value ≡ fixed z)) same p.4;
               met = λ u e. absurd (cc e);

@@ -8,16 +8,11 @@ use Rattle.flash_turn.specs.declared.view.View.{View}
 use Rattle.flash_turn.specs.Counts.{total, times, one_if_at, waits_at, given, claims}
 use Rattle.flash_turn.specs.Rule.{Knows, LockRule}
 use Rattle.flash_turn.specs.Steps.{Self, Serves}
-use Rattle.flash_turn.proofs.Totals.{total_same, term_le, terms_le, at_here}
+use Rattle.flash_turn.proofs.Totals.{first_times, total_same, term_le, terms_le, at_here}
 use Rattle.flash_turn.proofs.Lists.{each_set, set_only}
 use Rattle.flash_turn.proofs.Queues.{queue_serves}
 use Rattle.flash_turn.proofs.Numbers.{numbered_same}
 use Rattle.flash_names.proofs.Stories.{begins_self, begins_trans, own_kept}
-
--- a number that stands first in a list stands in it
-pub first_times : (n : ℕ) (numbers joined : List ℕ) → numbers ≡ n ∷ joined → 1 ≤ times n numbers
-first_times n numbers joined e =
-    let here = at_here n in let all : times n numbers ≡ times n (n ∷ joined) = ap (times n) e in omega (arith, here, all)
 
 abbrev carried : {B : Type 0} → B → List (ℕ × Option B) → Option B
 carried b [] = None
@@ -51,7 +46,7 @@ module _ {T E O F A : Type 0} (story : T → Option (List E)) (own : T → List 
           value = b.value;
           words = ap (λ l. slice_set l 1 ((slice_index l 1 + 1) % 2 ^ 64)) kept.words ∙ ap (λ x. kept.drawn % 2 ^ 64 ∷ x ∷ kept.next ∷ []) (mod-add-mod kept.served (2 ^ 64) 1);
           queue = queue_serves kept.drawn kept.served s.views id v w here out.0 refl kept.queue;
-          numbered = numbered_same kept.next s.views id v w here refl refl refl kept.numbered;
+          numbered = numbered_same kept.next s.views id v w here refl refl refl refl kept.numbered;
           home = λ _. (b, set_only s.homes (some (Some b)) wide, refl);
           known = each_set (Knows story own fixed kept.served kept.value) (Knows story own fixed (kept.served + 1) b.value) s.views id w kept.known
               (λ j u other there ok. record {

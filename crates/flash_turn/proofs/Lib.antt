@@ -1,3 +1,4 @@
+mod Apart
 mod Ending
 mod Entering
 mod Handed

@@ -1,5 +1,6 @@
 -- What holds of each element of a list of which one element changes.
-use Rattle.std.proofs.Common.{◌≡◌, ℕ, ◌≢◌, List, [], ◌∷◌, length, set, refl, subst, ⊎_elim, arith}
+use Rattle.std.proofs.Common.{◌≡◌, ℕ, ◌≢◌, List, [], ◌∷◌, ◌++◌, length, set, refl, subst, ⊎_elim, arith}
+use Rattle.std.specs.List.{AllByRecursion}
 use mathlib.Core.Option.{some}
 use lib.ListN.{get_elem?}
 use Rattle.atomic_table.proofs.Lists.{at_set}
@@ -19,3 +20,13 @@ module _ {A : Type 0} where
   set_only [] a e = absurd (omega arith)
   set_only (x ∷ []) a e = refl
   set_only (x ∷ y ∷ l) a e = absurd (omega arith)
+
+  -- each meets Q where it meets P
+  pub each_of_all : (P Q : A → Type 0) → ((x : A) → P x → Q x) → (xs : List A) → AllByRecursion P xs → AllByRecursion Q xs
+  each_of_all P Q goes [] all = tt
+  each_of_all P Q goes (x ∷ xs) all = (goes x all.0, each_of_all P Q goes xs all.1)
+
+  -- each of two lists, one after the other
+  pub all_both : (P : A → Type 0) (xs ys : List A) → AllByRecursion P xs → AllByRecursion P ys → AllByRecursion P (xs ++ ys)
+  all_both P [] ys all more = more
+  all_both P (x ∷ xs) ys all more = (all.0, all_both P xs ys all.1 more)

@@ -9,7 +9,8 @@ use Rattle.flash_names.specs.Shared.{Begins, own_of}
 use Rattle.flash_turn.specs.declared.view.View.{View}
 use Rattle.flash_turn.specs.Counts.{total, claims, one_if_at}
 use Rattle.flash_turn.specs.Queue.{Queue}
-use Rattle.flash_turn.specs.Numbered.{Numbered}
+use Rattle.std.specs.List.{AllByRecursion}
+use Rattle.flash_turn.specs.Numbered.{IsPast, Numbered}
 use Rattle.flash_turn.specs.Rule.{Knows, LockRule}
 use Rattle.flash_turn.specs.Steps.{first_view}
 use Rattle.flash_turn.proofs.Totals.{at_most, at_else}
@@ -32,6 +33,7 @@ numbered_first value = record {
   few = omega arith;
   most = omega arith;
   exact = λ p. absurd (omega arith);
+  past = alone (λ u. AllByRecursion (IsPast 2) u.draws) (first_view value) tt;
 }
 
 queue_first : {T : Type 0} (value : T) → Queue 0 0 (first_view value ∷ [])

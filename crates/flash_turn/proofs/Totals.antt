@@ -2,6 +2,7 @@
 use Rattle.std.proofs.Common.{◌≡◌, ℕ, zero, suc, ◌+◌, ◌<◌, ◌≤◌, ◌≢◌, List, [], ◌∷◌, ◌++◌, length, set, sym, refl, ap, arith, cond, eq-eqb, ne_eqb, Option, Some, None, Bool, true, false, Option, ◌==◌}
 use mathlib.Core.Logic.{dite}
 use native.Mathlib.Decide.{ℕ_discrete}
+use Rattle.std.specs.List.{AllByRecursion}
 use mathlib.Core.Option.{some, some-injective, some-ne-none}
 use lib.ListN.{get_elem?}
 use Rattle.flash_turn.specs.Counts.{total, one_if_at, one_if_some, times}
@@ -76,3 +77,13 @@ bit_most false = omega arith
 
 pub times-append : (x : ℕ) (ys zs : List ℕ) → times x (ys ++ zs) ≡ times x ys + times x zs
 times-append x ys zs = total-append (λ y. cond (y == x) 1 0) ys zs
+
+-- a number that is first in a list is in it
+pub first_times : (n : ℕ) (numbers joined : List ℕ) → numbers ≡ n ∷ joined → 1 ≤ times n numbers
+first_times n numbers joined e =
+    let here = at_here n in let all : times n numbers ≡ times n (n ∷ joined) = ap (times n) e in omega (arith, here, all)
+
+-- what holds of each number that occurs in a list holds of each of the list
+pub each_counted : (P : ℕ → Type 0) (xs : List ℕ) → ((x : ℕ) → 0 < times x xs → P x) → AllByRecursion P xs
+each_counted P [] holds = tt
+each_counted P (y ∷ xs) holds = let here = at_here y in (holds y (let all : times y (y ∷ xs) ≡ one_if_at y (Some y) + times y xs = refl in omega arith), each_counted P xs (λ x some. holds x (let all : times x (y ∷ xs) ≡ one_if_at x (Some y) + times x xs = refl in omega arith)))

@@ -6,7 +6,7 @@ abbrev pub total : {A : Type 0} → (A → ℕ) → List A → ℕ
 total f [] = 0
 total f (x ∷ xs) = f x + total f xs
 
--- how often the number x stands in a list
+-- how often the number x is in a list
 abbrev pub times : ℕ → List ℕ → ℕ
 times x ys = total (λ y. cond (y == x) 1 0) ys
 
@@ -39,10 +39,10 @@ module _ {T : Type 0} where
 
   -- the same with a number that was drawn and that no pass has yet
   abbrev pub claims : ℕ → View T → ℕ
-  claims x v = times x v.numbers + one_if_at x v.spare
+  claims x v = times x v.numbers + one_if_at x v.pending
 
-  abbrev pub spares : View T → ℕ
-  spares v = one_if_some v.spare
+  abbrev pub pendings : View T → ℕ
+  pendings v = one_if_some v.pending
 
   abbrev pub overs : View T → ℕ
   overs v = cond v.over 1 0

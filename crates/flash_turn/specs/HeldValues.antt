@@ -26,7 +26,7 @@ pub record IsHolding {T : Type 0} (number : ℕ) (v : View T) : Type 0 where
   pub joined : List ℕ
   pub ticketed : ℕ
   pub numbers : v.numbers ≡ number ∷ joined
-  pub spare : v.spare ≡ None
+  pub pending : v.pending ≡ None
   pub over : v.over ≡ false
   pub ticket : v.ticket ≡ Some ticketed
   pub has : v.has ≡ true

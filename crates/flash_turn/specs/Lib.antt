@@ -1,3 +1,4 @@
+pub mod Apart
 pub mod Closing
 pub mod Counts
 pub mod HeldValues

@@ -1,5 +1,5 @@
 -- What contracts say of a pass and of the lock that it belongs to.
-use Rattle.std.specs.Prelude.{◌≡◌, ℕ, false, List, [], ◌∷◌, Option, Some, None, option_and_then, option_map}
+use Rattle.std.specs.Prelude.{◌≡◌, ◌<◌, ℕ, false, List, [], ◌∷◌, Option, Some, None, option_and_then, option_map}
 use Rattle.flash_names.specs.Shared.{Begins, own_of}
 use Rattle.flash_turn.specs.Rule.{things_left}
 use Rattle.flash_turn.specs.declared.view.View.{View}
@@ -17,7 +17,7 @@ module _ {T : Type 0} where
   pub record IsIdle (number : ℕ) (v : View T) : Type 0 where
     pub joined : List ℕ
     pub numbers : v.numbers ≡ number ∷ joined
-    pub spare : v.spare ≡ None
+    pub pending : v.pending ≡ None
     pub over : v.over ≡ false
     pub ticket : v.ticket ≡ None
     pub has : v.has ≡ false
@@ -56,8 +56,10 @@ module _ {T : Type 0} where
   abbrev pub fixed_of : {F : Type 0} → (T → F) → Turn T → F
   fixed_of fixed turn = fixed turn.table.shared.key.value
 
-  -- what the pass finds in its turn: a story that begins with all that it had seen, its own things as it left them, and the fixed part of the lock
+  -- what the pass, whose number is above 0, finds in its turn: a story that begins with all that it had seen, its own
+  -- things as it left them, and the fixed part of the lock
   pub record FitsPass {E O F : Type 0} (story : T → Option (List E)) (own : T → List (ℕ × O)) (fixed : T → F) (turn : Turn T) (pass : Pass T) (value : T) : Type 0 where
     pub begins : Begins (seen story pass) (story value)
+    pub numbered : 0 < pass.number
     pub as_left : own_of pass.number (own value) ≡ left_own own pass
     pub same_fixed : fixed value ≡ fixed_of fixed turn

@@ -13,7 +13,7 @@ impl<T: Shared> Turn<T> {
     ghost use Rattle.flash_turn.specs.Steps.{Draws, MayDraw};
 
     /// Waits until the lock is free, and draws a ticket, which is then the served one. A thread that waits has no
-    /// ticket, so none waits behind one that doesn't run, and they get their turns in no order.
+    /// ticket, so none waits after one that doesn't run, and they get their turns in no order.
     pub(crate) fn draw<R: Wait>(&self, rt: &R, pass: &mut Pass<T>) -> u64
         requires table { pass.old.seat.table_id ≡ self.now.table.shared.table_id }
         requires ticket { (view_of pass.old).ticket ≡ None }

@@ -22,24 +22,24 @@ returns-in_default-2-2-clause-read c =
 -- what the number of a `say` says
 pub returns-in_default-read_session-clause-read : goal.returns-in_default-read_session-clause-read
 returns-in_default-read_session-clause-read c =
-    say_is (slice_range c.args.bytes.now c.args.start c.args.end) c.split_word.result.0.now c.split_word-2.result.0.now c.split_word.result.1 c.split_word-2.result.1 c.in-Some-rest.rest c.in-Say-Some.said
+    say_is (slice_range c.args.bytes.now c.args.start c.args.end) c.split_word.result.0.now c.split_word-2.result.0.now c.split_word.result.1 c.split_word-2.result.1 c.in-Some-rest.rest c.in-Say-Some.input
     c.split_word.ensures c.in-Some-rest.is c.split_word-2.ensures c.in-Say-Some.is-1 (sym c.step_word.ensures ∙ c.in-Some.is ∙ ap Some c.in-Say-Some.is-0)
-    ∙ ap (λ (n : Option ℕ). ok_or (option_map (λ session. Say session c.in-Say-Some.said.now) n) BadNumber)
+    ∙ ap (λ (n : Option ℕ). ok_or (option_map (λ session. Say session c.in-Say-Some.input.now) n) BadNumber)
     (sym c.read_session-in-Say-Some.ensures ∙ ap (λ (s : Option SessionNumber). option_map (λ session. session.number) s) c.in_default-read_session.is)
 
 pub overflow_sub-result : goal.overflow_sub-result
 overflow_sub-result c =
-    let ends = ends_line (slice_range c.args.bytes.now c.args.start c.args.end) c.split_word.result.0.now c.split_word-2.result.0.now c.split_word.result.1 c.split_word-2.result.1 c.in-Some-rest.rest c.in-Say-Some.said
+    let ends = ends_line (slice_range c.args.bytes.now c.args.start c.args.end) c.split_word.result.0.now c.split_word-2.result.0.now c.split_word.result.1 c.split_word-2.result.1 c.in-Some-rest.rest c.in-Say-Some.input
     c.split_word.ensures c.in-Some-rest.is c.split_word-2.ensures c.in-Say-Some.is-1 in
-    omega (arith, end_length c.args.bytes.now c.in-Say-Some.said.now c.args.start c.args.end c.requires.order c.requires.within ends)
+    omega (arith, end_length c.args.bytes.now c.in-Say-Some.input.now c.args.start c.args.end c.requires.order c.requires.within ends)
 
 pub returns-in-Some-read_session-clause-read : goal.returns-in-Some-read_session-clause-read
 returns-in-Some-read_session-clause-read c =
-    let ends = ends_line (slice_range c.args.bytes.now c.args.start c.args.end) c.split_word.result.0.now c.split_word-2.result.0.now c.split_word.result.1 c.split_word-2.result.1 c.in-Some-rest.rest c.in-Say-Some.said
+    let ends = ends_line (slice_range c.args.bytes.now c.args.start c.args.end) c.split_word.result.0.now c.split_word-2.result.0.now c.split_word.result.1 c.split_word-2.result.1 c.in-Some-rest.rest c.in-Say-Some.input
     c.split_word.ensures c.in-Some-rest.is c.split_word-2.ensures c.in-Say-Some.is-1 in
-    say_is (slice_range c.args.bytes.now c.args.start c.args.end) c.split_word.result.0.now c.split_word-2.result.0.now c.split_word.result.1 c.split_word-2.result.1 c.in-Some-rest.rest c.in-Say-Some.said
+    say_is (slice_range c.args.bytes.now c.args.start c.args.end) c.split_word.result.0.now c.split_word-2.result.0.now c.split_word.result.1 c.split_word-2.result.1 c.in-Some-rest.rest c.in-Say-Some.input
     c.split_word.ensures c.in-Some-rest.is c.split_word-2.ensures c.in-Say-Some.is-1 (sym c.step_word.ensures ∙ c.in-Some.is ∙ ap Some c.in-Say-Some.is-0)
-    ∙ ap (λ (n : Option ℕ). ok_or (option_map (λ session. Say session c.in-Say-Some.said.now) n) BadNumber)
+    ∙ ap (λ (n : Option ℕ). ok_or (option_map (λ session. Say session c.in-Say-Some.input.now) n) BadNumber)
     (sym c.read_session-in-Say-Some.ensures ∙ ap (λ (s : Option SessionNumber). option_map (λ session. session.number) s) c.in-Some-read_session.is)
-    ∙ ap (λ (said : List ℕ). Ok (Say c.in-Some-read_session.session.number said))
-    (sym (end_between c.args.bytes.now c.in-Say-Some.said.now c.args.start c.args.end c.requires.order c.requires.within ends))
+    ∙ ap (λ (input : List ℕ). Ok (Say c.in-Some-read_session.session.number input))
+    (sym (end_between c.args.bytes.now c.in-Say-Some.input.now c.args.start c.args.end c.requires.order c.requires.within ends))

@@ -8,8 +8,8 @@ abbrev pub invariant-lines : goal.invariant-lines
 invariant-lines l = record {
   inside : l.start ≤ length l.bytes;
   few : vec_len l.steps ≤ 1048576;
-  fault : fault_from (vec_len l.steps + 2) (drop l.start l.bytes) ≡ fault_from 2 (drop l.head_end l.bytes);
-  read : option_map (λ more. map (step_meant l.bytes) l.steps.items ++ more) (steps_of (lines_of (drop l.start l.bytes)).whole) ≡ steps_of (lines_of (drop l.head_end l.bytes)).whole;
+  fault : fault_from (vec_len l.steps + 2) (drop l.start l.bytes) ≡ fault_from 2 (drop l.steps_offset l.bytes);
+  read : option_map (λ more. map (step_meant l.bytes) l.steps.items ++ more) (steps_of (lines_of (drop l.start l.bytes)).whole) ≡ steps_of (lines_of (drop l.steps_offset l.bytes)).whole;
   within : AreWithin (length l.bytes) l.steps.items;
 }
 

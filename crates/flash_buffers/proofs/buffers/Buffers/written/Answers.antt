@@ -1,7 +1,7 @@
 use Rattle.std.proofs.Common.{◌≡◌, ◌<◌, Bool, false, drop, length, set, is_none, ap, arith, ◌∙◌, vec_capacity}
 use Rattle.flash_buffers.specs.Block.{Slot, blocks_in}
 use Rattle.flash_buffers.specs.BufferTable.{BufferTable}
-use Rattle.flash_buffers.specs.Calls.{with_written}
+use Rattle.flash_buffers.specs.Calls.{with_first_free}
 use Rattle.flash_buffers.proofs.SoundLemmas.{sound_written, written_table, without_first, first_inside}
 use Rattle.flash_buffers.proofs.buffers.Buffers.written.Goals as goal
 
@@ -27,12 +27,12 @@ returns c =
     let queue = c.self.inside.queue.items in
     let n = c.remove-number.result in
     let new : Slot = c.clear.new.self in
-    let was : Bool = c.args.self.now.out in
+    let was : Bool = c.args.self.now.in_flight in
     let some : 0 < length queue = omega arith in
     let rest : c.remove-number.new.self.items ≡ drop 1 queue = c.remove-number.ensures.items ∙ without_first queue in
-    let home : is_none c.self.inside.spare ≡ false = ap (λ (t : BufferTable). t.out) (c.self.view_is ∙ c.take_back.ensures) in
-    let table : BufferTable = record { size = size; blocks = blocks_in slots; queue = queue; out = was } in
-    let same : table ≡ c.args.self.now = ap (λ (t : BufferTable). record t { out = was }) (c.self.view_is ∙ c.take_back.ensures) in
-    let last : record { size = size; blocks = blocks_in (set slots n new); queue = drop 1 queue; out = false } ≡ with_written c.args.self.now c.args.self.now.queue =
-    written_table size slots queue was n new some c.remove-number.ensures.value (ap (λ (s : Slot). s.block) c.clear.ensures) ∙ ap (λ (t : BufferTable). with_written t t.queue) same in
+    let home : is_none c.self.inside.spare ≡ false = ap (λ (t : BufferTable). t.in_flight) (c.self.view_is ∙ c.take_back.ensures) in
+    let table : BufferTable = record { size = size; blocks = blocks_in slots; queue = queue; in_flight = was } in
+    let same : table ≡ c.args.self.now = ap (λ (t : BufferTable). record t { in_flight = was }) (c.self.view_is ∙ c.take_back.ensures) in
+    let last : record { size = size; blocks = blocks_in (set slots n new); queue = drop 1 queue; in_flight = false } ≡ with_first_free c.args.self.now c.args.self.now.queue =
+    written_table size slots queue was n new some c.remove-number.ensures.value (ap (λ (s : Slot). s.block) c.clear.ensures) ∙ ap (λ (t : BufferTable). with_first_free t t.queue) same in
     rw (rest, home) last

@@ -4,7 +4,7 @@ use Rattle.std.specs.Option.{option_map_or, option_and_then, option_copied}
 use Rattle.flash_names.specs.Told.{with_more}
 use Rattle.flash_machine.specs.Moments.{is_reached}
 use Rattle.flash_core.specs.declared.item.Item.{Item}
-use Rattle.flash_core.specs.Places.{IsPlace}
+use Rattle.flash_core.specs.Indexes.{IsIndex}
 use Rattle.flash_core.specs.Store.{Store}
 use Rattle.flash_core.specs.Items.{IsKept, cache_of_items, keys_of}
 use Rattle.flash_core.specs.Calls.{look_call}
@@ -17,20 +17,20 @@ use Rattle.flash_core.proofs.state.Core.look.Goals as goal
 pub found_at-requires-clause-kept : goal.found_at-requires-clause-kept
 found_at-requires-clause-kept g c =
     let f = c.self.inside in
-    let place = c.place_of-place.result in
+    let index = c.index_of-index.result in
     λ i here.
-    let one = live_kept f.items.items f.moment f.last_cas c.args.key.now f.geometry.item_max c.self.invariant.own_keys c.self.invariant.kept c.dead_at-dead.result place (option_copied c.live_at-live.result)
-    (subst (λ (l : List Item). IsPlace c.args.key.now l place) c.deref.ensures.value c.place_of-place.ensures) (search rules) i here in
+    let one = live_kept f.items.items f.moment f.last_cas c.args.key.now f.geometry.item_max c.self.invariant.own_keys c.self.invariant.kept c.dead_at-dead.result index (option_copied c.live_at-live.result)
+    (subst (λ (l : List Item). IsIndex c.args.key.now l index) c.deref.ensures.value c.index_of-index.ensures) (search rules) i here in
     record { deadline = one.deadline; size = omega (arith, one.size, c.self.invariant.passes.item_max) }
 
 pub remove_or_mark-requires-clause-deadline : goal.remove_or_mark-requires-clause-deadline
 remove_or_mark-requires-clause-deadline g c =
     let f = c.self.inside in
     let key = c.args.key.now in
-    let place = c.place_of-place.result in
+    let index = c.index_of-index.result in
     λ i here.
     (all_found (IsKept f.geometry.item_max f.last_cas) key f.items.items i c.self.invariant.kept
-    (sym (found_at key f.items.items place (subst (λ (l : List Item). IsPlace key l place) c.deref.ensures.value c.place_of-place.ensures)) ∙ here)).deadline
+    (sym (found_at key f.items.items index (subst (λ (l : List Item). IsIndex key l index) c.deref.ensures.value c.index_of-index.ensures)) ∙ here)).deadline
 
 -- the store as the call leaves it
 view_now : (g : _) (c : goal.After-remove_or_mark g) → Store
@@ -49,13 +49,13 @@ done_at g c =
     let f = c.self.inside in
     let told = g.J.Journal.told f.journal in
     let key = c.args.key.now in
-    let place = c.place_of-place.result in
+    let index = c.index_of-index.result in
     let new : IsNewTold told c.args.id = subst (λ (s : Store). IsNewTold s.told c.args.id) (sym c.self.view_is) c.requires in
     is_looked f.geometry f.items.items f.moment f.last_cas told c.self.invariant c.args.id key c.args.look
-    place c.dead_at-dead.result (option_copied c.live_at-live.result) c.in_ok-found.found c.remove_or_mark.new.items.items (g.J.Journal.told c.note_behind.new.journal)
+    index c.dead_at-dead.result (option_copied c.live_at-live.result) c.in_ok-found.found c.remove_or_mark.new.items.items (g.J.Journal.told c.note_behind.new.journal)
     new
-    (subst (λ (l : List Item). IsPlace key l place) c.deref.ensures.value c.place_of-place.ensures)
-    (c.dead_at-dead.ensures ∙ ap (λ (l : List Item). option_map_or (λ item. is_reached item.deadline f.moment) (option_and_then (slice_get l) place) _) c.deref-2.ensures.value)
+    (subst (λ (l : List Item). IsIndex key l index) c.deref.ensures.value c.index_of-index.ensures)
+    (c.dead_at-dead.ensures ∙ ap (λ (l : List Item). option_map_or (λ item. is_reached item.deadline f.moment) (option_and_then (slice_get l) index) _) c.deref-2.ensures.value)
     (search rules)
     c.in_ok-found.ensures.found
     c.remove_or_mark.ensures.items

@@ -4,7 +4,7 @@ use Rattle.std.specs.Option.{option_map_or, option_and_then, option_copied}
 use Rattle.flash_names.specs.Told.{with_more}
 use Rattle.flash_machine.specs.Moments.{is_reached}
 use Rattle.flash_core.specs.declared.item.Item.{Item}
-use Rattle.flash_core.specs.Places.{IsPlace}
+use Rattle.flash_core.specs.Indexes.{IsIndex}
 use Rattle.flash_core.specs.Store.{Store}
 use Rattle.flash_core.specs.Items.{cache_of_items, keys_of}
 use Rattle.flash_core.specs.Calls.{store_call}
@@ -16,9 +16,9 @@ use Rattle.flash_core.proofs.state.Core.store.Goals as goal
 pub choose-requires-clause-deadline : goal.choose-requires-clause-deadline
 choose-requires-clause-deadline g c =
     let f = c.self.inside in
-    let place = c.place_of-place.result in
-    λ i here. (live_kept f.items.items f.moment f.last_cas c.args.put.now.key f.geometry.item_max c.self.invariant.own_keys c.self.invariant.kept c.dead_at-dead.result place (option_copied c.live_at-live.result)
-    (subst (λ (l : List Item). IsPlace c.args.put.now.key l place) c.deref.ensures.value c.place_of-place.ensures) (search rules) i here).deadline
+    let index = c.index_of-index.result in
+    λ i here. (live_kept f.items.items f.moment f.last_cas c.args.put.now.key f.geometry.item_max c.self.invariant.own_keys c.self.invariant.kept c.dead_at-dead.result index (option_copied c.live_at-live.result)
+    (subst (λ (l : List Item). IsIndex c.args.put.now.key l index) c.deref.ensures.value c.index_of-index.ensures) (search rules) i here).deadline
 
 -- the store as the call leaves it
 view_now : (g : _) (c : goal.After-self-1 g) → Store
@@ -37,13 +37,13 @@ done_at g c =
     let f = c.self.inside in
     let told = g.J.Journal.told f.journal in
     let put = c.args.put.now in
-    let place = c.place_of-place.result in
+    let index = c.index_of-index.result in
     let new : IsNewTold told c.args.id = subst (λ (s : Store). IsNewTold s.told c.args.id) (sym c.self.view_is) c.requires in
     is_stored f.geometry f.items.items f.moment f.last_cas told c.self.invariant c.args.id put
-    place c.dead_at-dead.result (option_copied c.live_at-live.result) c.in_ok-choice.choice c.put_in_front.new.items.items (g.J.Journal.told c.note_behind.new.journal)
+    index c.dead_at-dead.result (option_copied c.live_at-live.result) c.in_ok-choice.choice c.put_in_front.new.items.items (g.J.Journal.told c.note_behind.new.journal)
     new
-    (subst (λ (l : List Item). IsPlace put.key l place) c.deref.ensures.value c.place_of-place.ensures)
-    (c.dead_at-dead.ensures ∙ ap (λ (l : List Item). option_map_or (λ item. is_reached item.deadline f.moment) (option_and_then (slice_get l) place) _) c.deref-2.ensures.value)
+    (subst (λ (l : List Item). IsIndex put.key l index) c.deref.ensures.value c.index_of-index.ensures)
+    (c.dead_at-dead.ensures ∙ ap (λ (l : List Item). option_map_or (λ item. is_reached item.deadline f.moment) (option_and_then (slice_get l) index) _) c.deref-2.ensures.value)
     (search rules)
     (c.in_ok-choice.ensures.chosen)
     c.in_ok-choice.ensures.rises c.in_ok-choice.ensures.above c.in_ok-choice.ensures.kept

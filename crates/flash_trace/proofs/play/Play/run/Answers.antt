@@ -22,7 +22,7 @@ returns-clause-done g c =
     let first : Seat = record seat { reader = reader_of taken.new.self; waiting = waiting_of taken.new.self } in
     let after : StoreState × Seat = (kept_of c.do_all.new.core, seat_of c.do_all.new.self) in
     let begins : first ≡ record seat { waiting = [] } = seat_by seat (reader_of taken.new.self) (waiting_of taken.new.self) taken.ensures.reader taken.ensures.waiting in
-    let put = seats_put c.args.core.now.geometry.item_max c.args.self.now.seats.items c.take_seat-seat.new.self.seats.items c.put_seat.new.self.seats.items (number - 1) c.end_turn.new.self c.take_seat-seat.ensures.seats c.put_seat.ensures.seats in
-    let over = ap (λ (s : Seat). slice_set p.seats (number - 1) (Some s)) c.end_turn.ensures.ended in
+    let put = seats_put c.args.core.now.geometry.item_max c.args.self.now.seats.items c.take_seat-seat.new.self.seats.items c.put_seat.new.self.seats.items (number - 1) c.end_run.new.self c.take_seat-seat.ensures.seats c.put_seat.ensures.seats in
+    let over = ap (λ (s : Seat). slice_set p.seats (number - 1) (Some s)) c.end_run.ensures.ended in
     played_by (kept_of c.do_all.new.core) _ _ _ _ (c.put_seat.ensures.printed ∙ c.take_seat-seat.ensures.printed) (put ∙ over)
     ∙ ran c.args.core.now.geometry p number seat c.take_seat-seat.ensures.seat c.deref.result.now first after begins (c.deref.ensures.value ∙ taken.ensures.taken) c.in_ok-do_all.ensures.done

@@ -5,9 +5,9 @@ use Rattle.flash_trace.proofs.play.Play.take_seat.Goals as goal
 pub returns-clause-seat : goal.returns-clause-seat
 returns-clause-seat c =
     let seats = c.args.self.now.seats.items in
-    let place = c.place.result in
+    let index = c.index.result in
     let taken = c.replace-made.ensures.value in
-    let there : c.replace-made.result ≡ get_or seats place c.replace-made.result =
-    taken ∙ c.index_mut.ensures.value ∙ ap (λ seat. get_or seats place seat) (sym taken) in
+    let there : c.replace-made.result ≡ get_or seats index c.replace-made.result =
+    taken ∙ c.index_mut.ensures.value ∙ ap (λ seat. get_or seats index seat) (sym taken) in
     c.made_or_new.ensures.seat
-    ∙ seat_at_place seats c.args.session.number place c.place.ensures.place c.replace-made.result c.requires.sixteen c.place.ensures.within there
+    ∙ seat_at_place seats c.args.session.number index c.index.ensures.index c.replace-made.result c.requires.sixteen c.index.ensures.within there

@@ -6,7 +6,7 @@ use Rattle.flash_turn.proofs.pass.Pass.join.Goals as goal
 
 pub join_seat-requires : goal.join_seat-requires
 join_seat-requires g c = let h = c.requires.own in let o = c.requires.other in
-    (h.table, o.table, o.slots, search rules, joins g.T.Shared.story g.T.Shared.own g.T.Shared.fixed _ _ c.args.self.now.seat.me.0 c.args.other.seat.me.0 _ _ h.idle.numbers o.idle.ticket o.idle.has o.idle.spare o.idle.over)
+    (h.table, o.table, o.slots, search rules, joins g.T.Shared.story g.T.Shared.own g.T.Shared.fixed _ _ c.args.self.now.seat.me.0 c.args.other.seat.me.0 _ _ h.idle.numbers o.idle.ticket o.idle.has o.idle.pending o.idle.over)
 
 pub load-requires : goal.load-requires
 load-requires g c = let h = c.requires.own in let o = c.requires.other in let j = c.join_seat.ensures in

@@ -6,7 +6,7 @@ use Rattle.std.proofs.lemmas.Nat.{from_be_bytes-to_be_bytes_4, from_be_bytes-to_
 use Rattle.std.specs.Int.{to_be_bytes, from_be_bytes, w32, w64}
 use Rattle.flash_crc.specs.Crc32c.{crc32c}
 use Rattle.flash_record.specs.Record.{Parts, Fits, content, record_bytes, record_length}
-use Rattle.flash_record.specs.Reading.{read, number_at, is_end, agrees_with_magic, key_length, value_length, checksum_place, parts_at}
+use Rattle.flash_record.specs.Reading.{record_at_front, number_at, is_end, agrees_with_magic, key_length, value_length, checksum_offset, parts_at}
 use Rattle.flash_crc.proofs.Bounds.{crc32c_fits}
 use Rattle.flash_crc.specs.Bytes.{IsBytes}
 use Rattle.flash_crc.proofs.Bytes.{in_front}
@@ -111,18 +111,18 @@ magic : (p : Parts) (l : List ℕ) → agrees_with_magic (head p ++ l) ≡ true
 unfolding head
 magic p l = rw (or_right (nat_le (length (head p ++ l)) 0) true refl, or_right (nat_le (length (head p ++ l)) 1) true refl, or_right (nat_le (length (head p ++ l)) 2) true refl) refl
 
-place_is : (p : Parts) (rest : List ℕ) → Fits p → checksum_place (record_bytes p ++ rest) ≡ 28 + length p.key + length p.value
+place_is : (p : Parts) (rest : List ℕ) → Fits p → checksum_offset (record_bytes p ++ rest) ≡ 28 + length p.key + length p.value
 place_is p rest fits =
     let back = behind_head p rest in
-    ap checksum_place (split p rest)
+    ap checksum_offset (split p rest)
     ∙ ap (λ (k : ℕ). 28 + k + value_length (head p ++ back)) (key_length_is p back)
     ∙ ap (λ (v : ℕ). 28 + length p.key + v) (value_length_is p back fits.value)
 
 -- what was written is read again, whatever follows
-pub read_again : (p : Parts) (rest : List ℕ) → Fits p → IsBytes (record_bytes p ++ rest) → read (record_bytes p ++ rest) ≡ Ok p
+pub read_again : (p : Parts) (rest : List ℕ) → Fits p → IsBytes (record_bytes p ++ rest) → record_at_front (record_bytes p ++ rest) ≡ Ok p
 read_again p rest fits each =
     let bytes = record_bytes p ++ rest in
-    let place = checksum_place bytes in
+    let place = checksum_offset bytes in
     let sum = to_be_bytes w32 (crc32c (content p)) in
     let is : place ≡ 28 + length p.key + length p.value = place_is p rest fits in
     let content_is : length (content p) ≡ place = content_length p ∙ sym is in

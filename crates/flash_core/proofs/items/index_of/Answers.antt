@@ -2,7 +2,7 @@ use Rattle.std.proofs.Common.{ℕ, List, ◌∙◌, ap}
 use Rattle.std.specs.Prelude.{position}
 use Rattle.std.specs.Str.{bytes_eq}
 use Rattle.flash_core.proofs.Positions.{position_is_place}
-use Rattle.flash_core.proofs.items.place_of.Goals as goal
+use Rattle.flash_core.proofs.items.index_of.Goals as goal
 
 pub returns : goal.returns
 returns c =
