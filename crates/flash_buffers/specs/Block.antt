@@ -34,12 +34,15 @@ fits_in size n block = nat_le (length block.records + n) size
 
 -- the record of these parts, with the version of the block's label
 abbrev pub parts_in : List ℕ → ℕ → ℕ → List ℕ → Block → Parts
-parts_in key flags cas value block = record { key = key; flags = flags; cas = cas; version = block.label.version; value = value }
+parts_in key flags cas value block =
+    record { key = key; flags = flags; cas = cas; version = block.label.version; value = value }
 
 -- where the record is to be, if it fits
 abbrev pub next_place : ℕ → Parts → Block → Option Place
 next_place size p block =
-    if fits_in size (record_length p) block then Some (record { label = block.label; offset = block.offset + length block.records; length = record_length p }) else None
+    if fits_in size (record_length p) block
+    then Some (record { label = block.label; offset = block.offset + length block.records; length = record_length p })
+    else None
 
 -- with the record after the others, if it fits
 abbrev pub with_record : ℕ → Parts → Block → Block
@@ -48,8 +51,10 @@ with_record size p block =
 
 -- the place of the record in a buffer, where it is taken and the record fits
 abbrev pub place_in : ℕ → List ℕ → ℕ → ℕ → List ℕ → Option Block → Option Place
-place_in size key flags cas value block = option_and_then (λ b. next_place size (parts_in key flags cas value b) b) block
+place_in size key flags cas value block =
+    option_and_then (λ b. next_place size (parts_in key flags cas value b) b) block
 
 -- a buffer's block with the record after the others, where it is taken and the record fits
 abbrev pub block_with_record : ℕ → List ℕ → ℕ → ℕ → List ℕ → Option Block → Option Block
-block_with_record size key flags cas value block = option_map (λ b. with_record size (parts_in key flags cas value b) b) block
+block_with_record size key flags cas value block =
+    option_map (λ b. with_record size (parts_in key flags cas value b) b) block

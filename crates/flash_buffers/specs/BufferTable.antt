@@ -38,7 +38,9 @@ pub record IsOpen (t : BufferTable) (number : ℕ) : Type 0 where
 
 -- no buffer of the label has a byte of this range of the buffers' size
 abbrev pub IsClear : BufferTable → Label → ℕ → Type 0
-IsClear t label offset = (number at : ℕ) → offset ≤ at → at < offset + t.size → covers t.size (record { label = label; offset = at; length = 1 }) (block_of t number) ≡ false
+IsClear t label offset =
+    (number at : ℕ) → offset ≤ at → at < offset + t.size
+    → covers t.size (record { label = label; offset = at; length = 1 }) (block_of t number) ≡ false
 
 -- the bytes of a place, where a buffer of its label covers it
 abbrev pub read_of : BufferTable → Place → Option (List ℕ)

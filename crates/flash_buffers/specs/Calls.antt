@@ -61,14 +61,20 @@ with_block t label offset (Some number) =
 -- the first of the queue is free
 abbrev pub with_first_free : BufferTable → List ℕ → BufferTable
 with_first_free t [] = record t { in_flight = false }
-with_first_free t (number ∷ rest) = record t { blocks = slice_set t.blocks number None; queue = rest; in_flight = false }
+with_first_free t (number ∷ rest) =
+    record t { blocks = slice_set t.blocks number None; queue = rest; in_flight = false }
 
 -- the buffers after the call
 abbrev pub table_after : Call → BufferTable → BufferTable
 table_after (takes label offset) t = with_block t label offset (first_free t)
-table_after (appends number key flags cas value) t = record t { blocks = slice_set t.blocks number (block_with_record t.size key flags cas value (block_of t number)) }
+table_after (appends number key flags cas value) t =
+    record t { blocks = slice_set t.blocks number (block_with_record t.size key flags cas value (block_of t number)) }
 table_after (seals number) t = record t { queue = t.queue ++ number ∷ [] }
 table_after begins t = record t { in_flight = t.in_flight || is_some (oldest_block t) }
 table_after (writes job) t = with_first_free t t.queue
 table_after (unwrites job) t = record t { in_flight = false }
-table_after (drops label) t = record t { blocks = map (block_without label) t.blocks; queue = filter (λ n. not (has_label label (block_of t n))) t.queue }
+table_after (drops label) t =
+    record t {
+      blocks = map (block_without label) t.blocks;
+      queue = filter (λ n. not (has_label label (block_of t n))) t.queue;
+    }

@@ -14,7 +14,8 @@ has_label label (Some block) = same_label block.label label
 abbrev pub covers : ℕ → Place → Option Block → Bool
 covers size place None = false
 covers size place (Some block) =
-    same_label block.label place.label && nat_le block.offset place.offset && nat_le (place.offset + place.length) (block.offset + size)
+    same_label block.label place.label && nat_le block.offset place.offset
+    && nat_le (place.offset + place.length) (block.offset + size)
 
 -- the bytes of the place in such a block
 abbrev pub bytes_in : ℕ → Place → Option Block → List ℕ
@@ -24,4 +25,5 @@ bytes_in size place (Some block) = take place.length (drop (place.offset - block
 -- the bytes of the place in the first buffer that covers it
 abbrev pub read_in : ℕ → Place → List (Option Block) → Option (List ℕ)
 read_in size place [] = None
-read_in size place (block ∷ rest) = if covers size place block then Some (bytes_in size place block) else read_in size place rest
+read_in size place (block ∷ rest) =
+    if covers size place block then Some (bytes_in size place block) else read_in size place rest

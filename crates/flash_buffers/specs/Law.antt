@@ -94,7 +94,8 @@ all_writes t (call ∷ rest) = writes_of t call ++ all_writes (table_after call 
 -- the call's numbers have the widths of their types, and its key is one
 abbrev pub HasWidths : Call → Type 0
 HasWidths (takes label offset) = label.version < 2 ^ 64
-HasWidths (appends number key flags cas value) = ((1 ≤ length key) × (length key ≤ 250)) × (flags < 2 ^ 32) × (cas < 2 ^ 64)
+HasWidths (appends number key flags cas value) =
+    ((1 ≤ length key) × (length key ≤ 250)) × (flags < 2 ^ 32) × (cas < 2 ^ 64)
 HasWidths (seals number) = Unit {0}
 HasWidths begins = Unit {0}
 HasWidths (writes job) = Unit {0}

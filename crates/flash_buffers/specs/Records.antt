@@ -15,4 +15,5 @@ IsOf version p = (p.version ≡ version) × Fits p
 
 -- the block's bytes are whole records of its version, one after the other
 abbrev pub AreRecords : Block → Type 0
-AreRecords block = (all : List Parts) × AllByRecursion (IsOf block.label.version) all × (block.records ≡ bytes_of_all all)
+AreRecords block =
+    (all : List Parts) × AllByRecursion (IsOf block.label.version) all × (block.records ≡ bytes_of_all all)

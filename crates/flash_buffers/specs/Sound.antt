@@ -17,7 +17,8 @@ IsTaken slots number = (number < length slots) × IsSome (slice_index_or slots n
 pub record Covers (size : ℕ) (place : Place) (slots : List Slot) (number : ℕ) : Type 0 where
   pub inside : number < length slots
   pub covers : covers size place (slice_index_or slots number free_slot).block ≡ true
-  pub read : read_in size place (blocks_in slots) ≡ Some (bytes_in size place (slice_index_or slots number free_slot).block)
+  pub read : read_in size place (blocks_in slots)
+      ≡ Some (bytes_in size place (slice_index_or slots number free_slot).block)
 
 -- the buffers and their queue are as `Buffers` keeps them: one size, fewer than 2^32, room in the queue for each,
 -- and in it taken ones alone, each once

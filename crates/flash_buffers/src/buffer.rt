@@ -67,7 +67,10 @@ impl Buffer {
     /// A block of this label, from this offset of its page on, takes it. It has no records yet.
     pub fn take(&mut self, label: Label, offset: u32)
         requires { offset + self.old.size < 2 ^ 32 }
-        ensures { self.new ≡ record self.old { block = Some (record { label = label; offset = offset; records = [] }) } }
+        ensures { self.new ≡ record self.old {
+          block = Some
+              (record { label = label; offset = offset; records = [] });
+        } }
     {
         zero_front(&mut self.bytes, self.used);
         self.label = Some(label);

@@ -255,7 +255,8 @@ fn clear_label(rows: &mut [Buffer], label: Label)
 
 // Takes the numbers of free buffers out of the queue.
 fn keep_taken(queue: &mut Vec<u32>, rows: &[Buffer])
-    ensures kept { queue.new.items ≡ filter (λ number. is_some (slice_index_or rows.now number free_slot).block) queue.old.items }
+    ensures kept { queue.new.items
+        ≡ filter (λ number. is_some (slice_index_or rows.now number free_slot).block) queue.old.items }
     ensures room { vec_capacity queue.new ≡ vec_capacity queue.old }
 {
     queue.retain(|number| is_taken(rows, *number));

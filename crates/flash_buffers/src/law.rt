@@ -14,7 +14,8 @@ ghost use Rattle.flash_buffers.specs.Records.{AreRecords};
 /// back, sealed buffers are written in their order, those that are dropped left out, and a block's bytes are
 /// whole records. It does nothing.
 pub fn keeps_the_law()
-    ensures kept { (buffers size : ℕ) (first second : List Call) (number : ℕ) (key : List ℕ) (flags cas : ℕ) (value : List ℕ) (place : Place) →
+    ensures kept { (buffers size : ℕ) (first second : List Call) (number : ℕ) (key : List ℕ) (flags cas : ℕ)
+        (value : List ℕ) (place : Place) →
         let call : Call = appends number key flags cas value in
         let before : BufferTable = after_all first (first_table buffers size) in
         let p : Parts = record { key = key; flags = flags; cas = cas; version = place.label.version; value = value } in

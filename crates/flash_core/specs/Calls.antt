@@ -73,7 +73,9 @@ store_call g c desk id put = store_after_sweep g (sweep c desk put.key) id put
 abbrev pub found_of : Cache → Look → Option Item → Found
 found_of c look None = found.Miss
 found_of c look (Some item) =
-    if look.value then found.Here (record { head = head_of_item c look item; value = item.value }) else found.Head (head_of_item c look item)
+    if look.value
+    then found.Here (record { head = head_of_item c look item; value = item.value })
+    else found.Head (head_of_item c look item)
 
 -- a lookup after the sweep
 abbrev pub look_after_sweep : Call Bool → Id → List ℕ → Look → Call Found
@@ -92,7 +94,8 @@ look_call c desk id key look = look_after_sweep (sweep c desk key) id key look
 -- a reading of the clock, up to 2^62, that is above the moment
 abbrev pub clock_to : Cache → Desk → ℕ → Call Bool
 clock_to c desk moment =
-    if nat_lt c.now moment then (record { entries = entries.Clock moment ∷ []; cache = clock_next c moment; desk = desk; answer = true })
+    if nat_lt c.now moment
+    then (record { entries = entries.Clock moment ∷ []; cache = clock_next c moment; desk = desk; answer = true })
     else (record { entries = []; cache = c; desk = desk; answer = false })
 
 -- what a reading of the clock does: above 2^62 it counts as 2^62

@@ -28,7 +28,8 @@ in_front (Some item) items = item ∷ items
 
 -- an item after it was found
 abbrev pub item_after_look : Option ℤ → ℕ → Item → Item
-item_after_look renew moment i = record i { deadline = deadline_after renew i.deadline moment; fetched = true; access = moment }
+item_after_look renew moment i =
+    record i { deadline = deadline_after renew i.deadline moment; fetched = true; access = moment }
 
 -- the items with the one at a place changed, where there is one
 abbrev pub with_changed : (Item → Item) → List Item → ℕ → Option Item → List Item
@@ -39,4 +40,5 @@ with_changed change items at (Some i) = slice_set items at (change i)
 abbrev pub items_after_look : Option ℤ → ℕ → Option ℕ → Bool → List Item → List Item
 items_after_look renew moment None dead items = items
 items_after_look renew moment (Some at) true items = remove items at
-items_after_look renew moment (Some at) false items = with_changed (item_after_look renew moment) items at (slice_get items at)
+items_after_look renew moment (Some at) false items =
+    with_changed (item_after_look renew moment) items at (slice_get items at)

@@ -73,7 +73,8 @@ keys_of is = map (λ i. i.key) is
 
 -- the cache of a store without flushes
 abbrev pub cache_of_items : List Item → ℕ → ℕ → Cache
-cache_of_items is now last_cas = record { items = items_of is; now = now; last_cas = last_cas; flush_mark = 0; pending_flush = None }
+cache_of_items is now last_cas =
+    record { items = items_of is; now = now; last_cas = last_cas; flush_mark = 0; pending_flush = None }
 
 -- what a head needs of an item: a deadline below 2^63, and a value below 4 GiB
 pub record HasHead (i : Item) : Type 0 where

@@ -23,12 +23,18 @@ LeavesARun g h call = IsRun g call.cache (h ++ call.entries)
 
 -- a run goes on by what a store does, where its number is new and its key's item is in memory
 abbrev pub EachStoreGoesOn : Type 0
-EachStoreGoesOn = (g : Geometry) (c : Cache) (h : List Entry) (desk : Desk) (id : Id) (put : Put) → IsRun g c h → IsHere c put.key → IsNew h id → LeavesARun g h (store_call g c desk id put)
+EachStoreGoesOn =
+    (g : Geometry) (c : Cache) (h : List Entry) (desk : Desk) (id : Id) (put : Put) → IsRun g c h → IsHere c put.key
+    → IsNew h id → LeavesARun g h (store_call g c desk id put)
 
 -- a run goes on by what a lookup does, where its number is new and its key's item is in memory
 abbrev pub EachLookupGoesOn : Type 0
-EachLookupGoesOn = (g : Geometry) (c : Cache) (h : List Entry) (desk : Desk) (id : Id) (key : List ℕ) (look : Look) → IsRun g c h → IsHere c key → IsNew h id → LeavesARun g h (look_call c desk id key look)
+EachLookupGoesOn =
+    (g : Geometry) (c : Cache) (h : List Entry) (desk : Desk) (id : Id) (key : List ℕ) (look : Look) → IsRun g c h
+    → IsHere c key → IsNew h id → LeavesARun g h (look_call c desk id key look)
 
 -- a run goes on by what a reading of the clock does
 abbrev pub EachClockGoesOn : Type 0
-EachClockGoesOn = (g : Geometry) (c : Cache) (h : List Entry) (desk : Desk) (reading : ℕ) → IsRun g c h → LeavesARun g h (clock_call c desk reading)
+EachClockGoesOn =
+    (g : Geometry) (c : Cache) (h : List Entry) (desk : Desk) (reading : ℕ) → IsRun g c h
+    → LeavesARun g h (clock_call c desk reading)

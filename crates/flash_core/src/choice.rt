@@ -36,7 +36,8 @@ pub fn choose(
 ) -> Result<Choice, AllocError>
     requires moment { now ≤ 2 ^ 62 }
     requires deadline { ForSome (option_copied live) HasDeadline }
-    ensures chosen { IfOk result (λ choice. parts_of_choice choice ≡ choice_of geometry.now now last_cas put.now (cached_item (option_copied live.entry))) }
+    ensures chosen { IfOk result (λ choice. parts_of_choice choice
+        ≡ choice_of geometry.now now last_cas put.now (cached_item (option_copied live.entry))) }
     ensures rises { IfOk result (λ choice. last_cas ≤ choice.last_cas) }
     ensures above { IfOk result (λ choice. ForSome choice.item (λ item. last_cas < item.cas)) }
     ensures kept { IfOk result (λ choice. AreKept geometry.now.item_max choice.last_cas (option_to_list choice.item)) }
@@ -61,9 +62,11 @@ pub fn choose(
 
 // Why the value isn't stored, if it isn't.
 fn refusal_of(geometry: &Geometry, last_cas: u64, put: &Put, live: Option<&Item>) -> Option<Stored>
-    ensures exact { (now : ℕ) → result ≡ refusal geometry.now (cache_without_items now last_cas) put.now (cached_item (option_copied live.entry)) }
+    ensures exact { (now : ℕ) → result
+        ≡ refusal geometry.now (cache_without_items now last_cas) put.now (cached_item (option_copied live.entry)) }
     ensures room { IsNone result → last_cas < 2 ^ 63 }
-    ensures fits { IsNone result → length (stored_value put.now put.now.mode (cached_item (option_copied live.entry))) ≤ geometry.now.item_max }
+    ensures fits { IsNone result → length (stored_value put.now put.now.mode (cached_item (option_copied live.entry)))
+        ≤ geometry.now.item_max }
 {
     if mode_fails(put.mode, live) {
         return Some(Stored::NotStored);
@@ -111,7 +114,8 @@ fn compare_refusal(compare: Option<u64>, live: Option<&Item>) -> Option<Stored>
 // The value that is stored, in two parts: the item's and the command's in the order of the mode, else the
 // command's and nothing.
 fn joined<'a>(put: &'a Put, live: Option<&'a Item>) -> (&'a [u8], &'a [u8])
-    ensures { result.0.now ++ result.1.now ≡ stored_value put.now put.now.mode (cached_item (option_copied live.entry)) }
+    ensures { result.0.now ++ result.1.now
+        ≡ stored_value put.now put.now.mode (cached_item (option_copied live.entry)) }
 {
     match (put.mode, live) {
         (Mode::Append, Some(item)) => (item.value.bytes(), put.value.bytes()),
@@ -122,7 +126,8 @@ fn joined<'a>(put: &'a Put, live: Option<&'a Item>) -> (&'a [u8], &'a [u8])
 
 // Whether the value that is stored is longer than it may be.
 fn is_too_large(item_max: u32, put: &Put, live: Option<&Item>) -> bool
-    ensures { result ≡ nat_lt item_max (length (stored_value put.now put.now.mode (cached_item (option_copied live.entry)))) }
+    ensures { result ≡ nat_lt item_max
+        (length (stored_value put.now put.now.mode (cached_item (option_copied live.entry)))) }
 {
     let (front, back) = joined(put, live);
     front.len().saturating_add(back.len()) > item_max as usize
@@ -139,9 +144,12 @@ fn new_item(
     requires moment { now ≤ 2 ^ 62 }
     requires deadline { ForSome (option_copied live) HasDeadline }
     ensures item { IfOk result (λ item. (item.key ≡ put.now.key) × (item.cas ≡ cas)
-        × ((last_cas : ℕ) → cas ≡ last_cas + 1 → item_of item ≡ stored_item (cache_without_items now last_cas) put.now put.now.mode (cached_item (option_copied live.entry)))) }
+        × ((last_cas : ℕ) → cas ≡ last_cas + 1
+        → item_of item ≡ stored_item (cache_without_items now last_cas) put.now put.now.mode
+        (cached_item (option_copied live.entry)))) }
     ensures deadline { IfOk result HasDeadline }
-    ensures value { IfOk result (λ item. item.value ≡ stored_value put.now put.now.mode (cached_item (option_copied live.entry))) }
+    ensures value { IfOk result (λ item. item.value
+        ≡ stored_value put.now put.now.mode (cached_item (option_copied live.entry))) }
 {
     let (front, back) = joined(put, live);
     let value = concatenated(alloc, front, back)?;
@@ -173,7 +181,8 @@ fn flags_and_deadline(now: u64, put: &Put, live: Option<&Item>) -> (u32, Option<
     requires moment { now ≤ 2 ^ 62 }
     requires deadline { ForSome (option_copied live) HasDeadline }
     ensures deadline { IfSome result.1 (λ moment. moment < 2 ^ 63) }
-    ensures kept { (last_cas : ℕ) → let item = stored_item (cache_without_items now last_cas) put.now put.now.mode (cached_item (option_copied live.entry)) in
+    ensures kept { (last_cas : ℕ) → let item = stored_item (cache_without_items now last_cas) put.now put.now.mode
+        (cached_item (option_copied live.entry)) in
         (result.0 ≡ item.flags) × (result.1 ≡ item.deadline) }
 {
     match (put.mode, live) {

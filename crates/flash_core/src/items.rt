@@ -37,7 +37,8 @@ impl Item {
 // Whether the item at the place is dead, if there is one.
 pub fn dead_at(items: &[Item], index: Option<usize>, now: u64) -> bool
     requires { ForSome index (λ at. at < length items.now) }
-    ensures { result ≡ option_map_or (λ item. is_reached item.deadline now) (option_and_then (slice_get items.now) index) false }
+    ensures { result ≡ option_map_or
+        (λ item. is_reached item.deadline now) (option_and_then (slice_get items.now) index) false }
 {
     match index {
         None => false,

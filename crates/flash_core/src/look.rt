@@ -32,7 +32,8 @@ impl<J: Journal> Core<J> {
     ) -> Result<Found, AllocError>
         requires { IsNewTold self.old.told id }
         ensures ok { OnOk result (Becomes self.old (look_call self.old.cache self.old.desk id key.now look) self.new) }
-        ensures answer { IfOk result (λ answer. answer ≡ (look_call self.old.cache self.old.desk id key.now look).answer) }
+        ensures answer { IfOk result (λ answer. answer
+            ≡ (look_call self.old.cache self.old.desk id key.now look).answer) }
         ensures err { OnErr result (Stays self.old self.new) }
         ensures ready { IsTrue self.old.ready → IsTrue self.new.ready }
         ensures sure { IsTrue self.old.ready → look.value ≡ false → IsOk result }
@@ -58,7 +59,8 @@ fn found_at(
     requires moment { moment ≤ 2 ^ 62 }
     requires kept { ForSome (option_copied live) HasHead }
     ensures sure { look.value ≡ false → IsOk result }
-    ensures found { IfOk result (λ found. found ≡ found_of (cache_without_items moment 0) look (cached_item (option_copied live.entry))) }
+    ensures found { IfOk result (λ found. found
+        ≡ found_of (cache_without_items moment 0) look (cached_item (option_copied live.entry))) }
 {
     let Some(item) = live else {
         return Ok(Found::Miss);
@@ -75,7 +77,8 @@ fn found_at(
 fn geometry_of_line(moment: u64, item: &Item, renew: Option<i64>) -> Head
     requires moment { moment ≤ 2 ^ 62 }
     requires kept { HasHead item.now }
-    ensures { (look : Look) → look.renew ≡ renew → result ≡ head_of_item (cache_without_items moment 0) look (item_of item.now) }
+    ensures { (look : Look) → look.renew ≡ renew
+        → result ≡ head_of_item (cache_without_items moment 0) look (item_of item.now) }
 {
     Head {
         flags: item.flags,
@@ -133,7 +136,9 @@ fn remove_or_mark(
     requires moment { moment ≤ 2 ^ 62 }
     requires deadline { ForSome (option_and_then (slice_get items.old.items) index) HasDeadline }
     ensures items { items.new.items ≡ items_after_look renew moment index dead items.old.items }
-    ensures deadline { dead ≡ false → ForSome (option_and_then (slice_get items.old.items) index) (λ item. HasDeadline (item_after_look renew moment item)) }
+    ensures deadline { dead ≡ false
+        → ForSome (option_and_then (slice_get items.old.items) index)
+        (λ item. HasDeadline (item_after_look renew moment item)) }
 {
     let Some(at) = index else {
         return;

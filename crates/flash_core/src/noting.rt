@@ -25,7 +25,8 @@ pub fn note_behind<J: Journal>(
     first: Option<Note<'_>>,
     last: Note<'_>,
 ) -> Result<(), AllocError>
-    ensures noted { OnOk result (J.told journal.new ≡ with_more (entry_if first.entry ++ entry_of last.entry ∷ []) (J.told journal.old)) }
+    ensures noted { OnOk result (J.told journal.new
+        ≡ with_more (entry_if first.entry ++ entry_of last.entry ∷ []) (J.told journal.old)) }
     ensures refused { OnErr result (J.told journal.new ≡ J.told journal.old) }
     ensures ready { IsTrue (J.ready journal.old) → IsOk result × IsTrue (J.ready journal.new) }
 {

@@ -76,7 +76,8 @@ impl<J: Journal> Core<J> {
           desk = record { hot = [] };
         }) }
         ensures passes { IfOk result (λ _. Passes geometry) }
-        ensures broken { IfErr (check_result geometry) (λ bad. IfErr result (λ error. error.why ≡ OpenWhy.BadGeometry bad.rule)) }
+        ensures broken { IfErr (check_result geometry)
+            (λ bad. IfErr result (λ error. error.why ≡ OpenWhy.BadGeometry bad.rule)) }
         ensures refused { IfErr result (λ error. IsRefusedFor geometry error.why × (error.journal ≡ journal)) }
     {
         if let Err(BadGeometry { rule }) = geometry.check() {

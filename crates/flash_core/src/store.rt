@@ -18,8 +18,10 @@ impl<J: Journal> Core<J> {
     /// tells its entries.
     pub fn store(&mut self, alloc: Global, id: Id, put: &Put) -> Result<Stored, AllocError>
         requires { IsNewTold self.old.told id }
-        ensures ok { OnOk result (Becomes self.old (store_call self.old.geometry self.old.cache self.old.desk id put.now) self.new) }
-        ensures answer { IfOk result (λ answer. answer ≡ (store_call self.old.geometry self.old.cache self.old.desk id put.now).answer) }
+        ensures ok { OnOk result (Becomes self.old
+            (store_call self.old.geometry self.old.cache self.old.desk id put.now) self.new) }
+        ensures answer { IfOk result (λ answer. answer
+            ≡ (store_call self.old.geometry self.old.cache self.old.desk id put.now).answer) }
         ensures err { OnErr result (Stays self.old self.new) }
         ensures ready { IsTrue self.old.ready → IsTrue self.new.ready }
     {

@@ -42,7 +42,8 @@ impl Crc {
     /// Takes these bytes after those that were fed before.
     pub fn feed(&mut self, bytes: &[u8])
         ensures exact { self.new ≡ remainder self.old bytes.now }
-        ensures behind { (fed : List ℕ) → self.old ≡ remainder all_ones fed → self.new ≡ remainder all_ones (fed ++ bytes.now) }
+        ensures behind { (fed : List ℕ) → self.old ≡ remainder all_ones fed
+            → self.new ≡ remainder all_ones (fed ++ bytes.now) }
     {
         self.remainder = after_bytes(self.remainder, bytes);
     }

@@ -15,7 +15,8 @@ use Rattle.flash_machine.specs.Looking.{look_next}
 -- the cache at a new moment: a pending flush that is reached takes effect
 abbrev pub clock_next : Cache → ℕ → Cache
 clock_next c moment =
-    if is_reached c.pending_flush moment then record c { now = moment; flush_mark = c.last_cas; pending_flush = None } else record c { now = moment }
+    if is_reached c.pending_flush moment then record c { now = moment; flush_mark = c.last_cas; pending_flush = None }
+    else record c { now = moment }
 
 -- the cache after a command's step; the steps that no command makes yet leave it
 abbrev pub done_next : Geometry → List Entry → Cache → Done → Cache

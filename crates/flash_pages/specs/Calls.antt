@@ -76,13 +76,17 @@ Allowed t (spares label) = IsAt is_in_use t label
 -- the pages after the call
 abbrev pub table_after : Call → PageTable → PageTable
 table_after (opens bucket) t = with_page_opened t bucket (next_opening t bucket)
-table_after (pins label) t = if has_ended t label then t else with_row t label (λ row. record row { pins = row.pins + 1 })
+table_after (pins label) t =
+    if has_ended t label then t else with_row t label (λ row. record row { pins = row.pins + 1 })
 table_after (unpins label) t = with_row t label (λ row. record row { pins = row.pins - 1 })
-table_after (adds_live label bytes) t = with_row t label (λ row. record row { live = row.live + 1; live_bytes = row.live_bytes + bytes })
-table_after (takes_live label bytes) t = with_row t label (λ row. record row { live = row.live - 1; live_bytes = row.live_bytes - bytes })
+table_after (adds_live label bytes) t =
+    with_row t label (λ row. record row { live = row.live + 1; live_bytes = row.live_bytes + bytes })
+table_after (takes_live label bytes) t =
+    with_row t label (λ row. record row { live = row.live - 1; live_bytes = row.live_bytes - bytes })
 table_after (fills label) t = with_row t label (λ row. record row { state = Full })
 table_after (ends label) t = with_row t label (λ row. record row { state = Ended })
-table_after (frees label) t = with_row t label (λ row. record row { state = Free; live = 0; live_bytes = 0; spared = false })
+table_after (frees label) t =
+    with_row t label (λ row. record row { state = Free; live = 0; live_bytes = 0; spared = false })
 table_after (compacts label) t = record t { under = Some label }
 table_after compacts_none t = record t { under = None }
 table_after (spares label) t = with_row t label (λ row. record row { spared = true })

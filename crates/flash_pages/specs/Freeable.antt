@@ -10,7 +10,8 @@ use Rattle.flash_pages.specs.Calls.{CanFree}
 abbrev pub first_freeable : ℕ → List PageRow → Option Label
 first_freeable n [] = None
 first_freeable n (row ∷ rest) =
-    if is_ended row.state && nat_eq row.pins 0 then Some (record { page = n; version = row.version }) else first_freeable (n + 1) rest
+    if is_ended row.state && nat_eq row.pins 0 then Some (record { page = n; version = row.version })
+    else first_freeable (n + 1) rest
 
 -- the ended page of lowest number that has no pin
 abbrev pub freeable : PageTable → Option Label

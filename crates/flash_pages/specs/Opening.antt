@@ -31,7 +31,8 @@ next_opening t bucket =
 
 -- the row of a page that has just been opened
 abbrev pub open_row : Bucket → ℕ → PageRow
-open_row bucket version = record { state = Open; version = version; bucket = bucket; pins = 0; live = 0; live_bytes = 0; spared = false }
+open_row bucket version =
+    record { state = Open; version = version; bucket = bucket; pins = 0; live = 0; live_bytes = 0; spared = false }
 
 -- after this was opened
 abbrev pub with_page_opened : PageTable → Bucket → Opened → PageTable

@@ -18,24 +18,28 @@ is_under (Some other) label = same_label other label
 abbrev pub to_evict : Option Label → ℕ → PageRow → Option Candidate
 to_evict under number row =
     let label : Label = record { page = number; version = row.version } in
-    if is_full row.state && not (is_under under label) then Some (record { label = label; weight = row.version }) else None
+    if is_full row.state && not (is_under under label) then Some (record { label = label; weight = row.version })
+    else None
 
 -- a Full page that isn't spared may be compacted where 100 times its live bytes are at most `most`: its weight
 -- is its live bytes
 abbrev pub to_compact : ℕ → ℕ → PageRow → Option Candidate
 to_compact most number row =
     let label : Label = record { page = number; version = row.version } in
-    if is_full row.state && not row.spared && nat_le (100 * row.live_bytes) most then Some (record { label = label; weight = row.live_bytes }) else None
+    if is_full row.state && not row.spared
+    && nat_le (100 * row.live_bytes) most then Some (record { label = label; weight = row.live_bytes }) else None
 
 -- the page that is evicted next, where at most drop_under pages are free
 abbrev pub victim_evict : PageTable → Option Label
 victim_evict t =
-    if nat_le (free_count t) t.drop_under then option_map (λ c. c.label) (least_from (to_evict t.under) 0 t.rows) else None
+    if nat_le (free_count t) t.drop_under then option_map (λ c. c.label) (least_from (to_evict t.under) 0 t.rows)
+    else None
 
 -- the page that is compacted next, where at most compact_under pages are free
 abbrev pub victim_compact : PageTable → Option Label
 victim_compact t =
-    if nat_le (free_count t) t.compact_under then option_map (λ c. c.label) (least_from (to_compact (t.max_frag * t.page_size)) 0 t.rows) else None
+    if nat_le (free_count t) t.compact_under then option_map
+    (λ c. c.label) (least_from (to_compact (t.max_frag * t.page_size)) 0 t.rows) else None
 
 -- the label is that of a Full page that isn't under compaction
 pub record MayEvict (t : PageTable) (label : Label) : Type 0 where
@@ -63,7 +67,8 @@ pub record IsEmptiest (t : PageTable) (label : Label) : Type 0 where
   pub few : free_count t ≤ t.compact_under
   pub may : MayCompact t label
   pub fewest : (other : Label) → MayCompact t other → (row_of t label).live_bytes ≤ (row_of t other).live_bytes
-  pub first : (other : Label) → MayCompact t other → other.page < label.page → (row_of t label).live_bytes < (row_of t other).live_bytes
+  pub first : (other : Label) → MayCompact t other → other.page < label.page
+      → (row_of t label).live_bytes < (row_of t other).live_bytes
 
 -- where few enough pages are free, none may be compacted
 abbrev pub NoneToCompact : PageTable → Type 0

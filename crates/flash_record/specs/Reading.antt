@@ -72,4 +72,5 @@ Gives (Err e) expected = expected ≡ Err e
 
 -- these bytes are the record of this key, CAS number and version, and of some flags and value
 abbrev pub IsRecordOf : List ℕ → List ℕ → ℕ → ℕ → Type 0
-IsRecordOf bytes key cas version = (p : Parts) × (Fits p) × (bytes ≡ record_bytes p) × (p.key ≡ key) × (p.cas ≡ cas) × (p.version ≡ version)
+IsRecordOf bytes key cas version =
+    (p : Parts) × (Fits p) × (bytes ≡ record_bytes p) × (p.key ≡ key) × (p.cas ≡ cas) × (p.version ≡ version)

@@ -28,7 +28,8 @@ record_length p = 32 + length p.key + length p.value
 unfoldable pub content : Parts → List ℕ
 content p =
     (0x46 ∷ 0x52 ∷ 0x01 ∷ length p.key ∷ to_be_bytes w32 p.flags)
-    ++ (to_be_bytes w32 (length p.value) ++ (to_be_bytes w64 p.cas ++ (to_be_bytes w64 p.version ++ (p.key ++ p.value))))
+    ++ (to_be_bytes w32 (length p.value)
+    ++ (to_be_bytes w64 p.cas ++ (to_be_bytes w64 p.version ++ (p.key ++ p.value))))
 
 -- the record: its content, and after it the content's CRC-32C, with the highest byte first
 unfoldable pub record_bytes : Parts → List ℕ

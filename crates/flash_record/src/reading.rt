@@ -33,7 +33,8 @@ pub struct Record<'a> {
 /// `Short` where there are fewer than the lengths ask for, `Sum`.
 pub fn read_record(bytes: &[u8]) -> Result<Record<'_>, NotRecord>
     // What was read is at the front.
-    ensures found { IfOk result (λ r. Fits (parts_of r) × (bytes.now ≡ record_bytes (parts_of r) ++ drop r.length bytes.now)) }
+    ensures found { IfOk result (λ r. Fits (parts_of r)
+        × (bytes.now ≡ record_bytes (parts_of r) ++ drop r.length bytes.now)) }
     ensures length { IfOk result (λ r. (r.length ≡ record_length (parts_of r)) × (r.length ≤ length bytes.now)) }
 
     // What is at the front is read.

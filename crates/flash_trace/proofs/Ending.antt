@@ -1,14 +1,15 @@
 -- What each end of a trace says.
-use Rattle.std.proofs.Common.{◌≡◌, ℕ, ◌<◌, Bool, List, [], ◌++◌, length, Option, None, Some, refl, sym, ◌∙◌, ap, subst, inl, inr, arith, length-append, if◌then◌else◌, is_none}
+use Rattle.std.proofs.Common.{◌≡◌, ℕ, ◌<◌, Bool, true, false, List, [], ◌++◌, length, Option, None, Some, refl, sym, ◌∙◌, ap, subst, inl, inr, arith, length-append, if◌then◌else◌, is_none}
 use Rattle.std.proofs.lemmas.Bool.{lt-ltb}
 use Rattle.std.proofs.lemmas.List.{append-nil}
 use Rattle.flash_names.specs.Source.{IsAtEnd}
+use Rattle.flash_names.specs.Faults.{Rose}
 use Rattle.flash_names.specs.Told.{with_front}
-use Rattle.flash_device.specs.declared.shape.Shape.{Shape}
 use Rattle.flash_trace.specs.declared.fault.ScriptFault.{ScriptFault}
 use Rattle.flash_trace.specs.declared.fault.Status.{Status}
 use Rattle.flash_trace.specs.declared.fault.Status.TheVariants as statuses
-use Rattle.flash_trace.specs.Ends.{Ends, AtDone, AtScript, AtSinkFault, HasRead, IsRead, HasRun, HasRefused, HasBegun, HasReading, IsAsked, IsComplete, EveryTraceIsRight}
+use Rattle.flash_trace.specs.Ends.{Ends, EndsOf, HasRead, IsRead, HasReading, IsPrepared, IsAsked, IsComplete, IsTraced, EveryTraceIsRight}
+use Rattle.flash_trace.specs.Outside.{SourceChange, SinkChange, DeviceChange}
 use Rattle.flash_trace.specs.declared.fault.Why.TheVariants.{TooLong}
 use Rattle.flash_trace.specs.Scripts.{Script, fault_of, script_of, script_of_lines, too_long, lines_fault, lines_of}
 
@@ -29,54 +30,6 @@ good_script : (found : Option ScriptFault) (lines : Option Script) (script : Scr
 good_script None lines script reading = refl
 good_script (Some fault) lines script reading = absurd (cc reading)
 
-module _ (with_journal : Option Bool) (left left_after held held_after : Option (List ℕ)) (untouched sink_rose device_rose : Type 0) (prepared : Option Shape)
-    (bytes : List ℕ) (journal : Bool) (read : HasRead bytes left left_after) (wanted : with_journal ≡ Some journal) where
-  abbrev what : IsRead with_journal left left_after
-  what = record { bytes = bytes; read = read; journal = journal; wanted = wanted }
-
-  -- a script without a bad line isn't too long, so all of it was read
-  at_end : (script : Script) → script_of bytes ≡ Some script → IsAtEnd left_after
-  at_end script reading = elim read.whole [
-    | inl end ↦ end
-    | inr long ↦ absurd (long_is_bad bytes long (good_script (fault_of bytes) (script_of_lines (lines_of bytes)) script reading))
-  ]
-
-  pub at_done : EveryTraceIsRight → (status : Status) → Ends bytes journal untouched sink_rose device_rose prepared held held_after status → AtDone status (HasRun with_journal prepared left left_after held held_after)
-  at_done right statuses.Done ends = record { is = what; at_end = at_end ends.script ends.reading; runs = ends; right = right bytes ends.script ends.reading }
-  at_done right statuses.Usage ends = tt
-  at_done right (statuses.Script fault) ends = tt
-  at_done right statuses.SourceFault ends = tt
-  at_done right statuses.SinkFault ends = tt
-  at_done right statuses.PrepareFault ends = tt
-  at_done right statuses.NoMemory ends = tt
-
-  pub at_script : (status : Status) → Ends bytes journal untouched sink_rose device_rose prepared held held_after status → AtScript status (λ fault. HasRefused fault with_journal left left_after held held_after)
-  at_script statuses.Done ends = tt
-  at_script statuses.Usage ends = tt
-  at_script (statuses.Script fault) ends = record { is = what; bad = ends.0; written = ends.1 }
-  at_script statuses.SourceFault ends = tt
-  at_script statuses.SinkFault ends = tt
-  at_script statuses.PrepareFault ends = tt
-  at_script statuses.NoMemory ends = tt
-
-  pub at_begun : (status : Status) → Ends bytes journal untouched sink_rose device_rose prepared held held_after status → AtSinkFault status (HasBegun with_journal left left_after held held_after)
-  at_begun statuses.Done ends = tt
-  at_begun statuses.Usage ends = tt
-  at_begun (statuses.Script fault) ends = tt
-  at_begun statuses.SourceFault ends = tt
-  at_begun statuses.SinkFault ends = record { is = what; begun = ends.1 }
-  at_begun statuses.PrepareFault ends = tt
-  at_begun statuses.NoMemory ends = tt
-
-  pub at_asked : (once failed : Type 0) (status : Status) → IsAsked untouched once failed (fault_of bytes ≡ None) status → IsAsked untouched once failed (HasReading with_journal left left_after) status
-  at_asked once failed statuses.Done asked = (asked.0, record { is = what; good = asked.1 })
-  at_asked once failed statuses.Usage asked = asked
-  at_asked once failed (statuses.Script fault) asked = asked
-  at_asked once failed statuses.SourceFault asked = asked
-  at_asked once failed statuses.SinkFault asked = elim asked [ inl untouched ↦ inl untouched | inr once ↦ inr (once.0, record { is = what; good = once.1 }) ]
-  at_asked once failed statuses.PrepareFault asked = (asked.0, record { is = what; good = asked.1 })
-  at_asked once failed statuses.NoMemory asked = elim asked [ inl untouched ↦ inl untouched | inr once ↦ inr (once.0, record { is = what; good = once.1 }) ]
-
 -- what a source that told all its bytes has left
 record Leaves (all bytes : List ℕ) (left_after : Option (List ℕ)) : Type 0 where
   rest : List ℕ
@@ -87,24 +40,73 @@ leaves : (all bytes : List ℕ) (left_after : Option (List ℕ)) → Some all �
 leaves all bytes None taken = absurd (cc taken)
 leaves all bytes (Some rest) taken = record { rest = rest; parts = cc; tells = refl }
 
-module _ (with_journal : Option Bool) (left left_after held held_after : Option (List ℕ)) (untouched source_rose sink_rose device_rose : Type 0) (prepared : Option Shape) (bytes : List ℕ) (journal : Bool) (read : HasRead bytes left left_after) where
-  bad_script : (all : List ℕ) → left ≡ Some all → fault_of all ≡ None → (fault : ScriptFault) → fault_of bytes ≡ Some fault → ⊥
-  bad_script all tells good fault bad =
-      let left = leaves all bytes left_after (sym tells ∙ read.taken) in
-      elim read.whole [
-        | inl end ↦
-            let none : left.rest ≡ [] = end left.rest left.tells in
-            let same : all ≡ bytes = left.parts ∙ ap (λ (l : List ℕ). bytes ++ l) none ∙ append-nil bytes in
-            let clash : None ≡ Some fault = sym good ∙ ap fault_of same ∙ bad in
-            absurd (cc clash)
-        | inr long ↦ long_is_bad all (omega (arith, long, ap length left.parts, length-append bytes left.rest)) good
-      ]
+module _ (wanted : Option Bool) (untouched : Type 0) (source : SourceChange) (sink : SinkChange) (device : DeviceChange) where
+  -- the words ask for something else
+  pub usage_traced : wanted ≡ None → untouched → IsTraced wanted untouched source sink device statuses.Usage
+  usage_traced none same = record { ends = none; asked = same; complete = λ all tells good journal some. absurd (cc (none, some)) }
 
-  pub is_complete : (status : Status) → Ends bytes journal untouched sink_rose device_rose prepared held held_after status → IsComplete with_journal left source_rose sink_rose device_rose status
-  is_complete statuses.Done ends = λ all tells good j wanted source sink device. inl refl
-  is_complete statuses.Usage ends = absurd ends
-  is_complete (statuses.Script fault) ends = λ all tells good j wanted source sink device. absurd (bad_script all tells good fault ends.0)
-  is_complete statuses.SourceFault ends = absurd ends
-  is_complete statuses.SinkFault ends = λ all tells good j wanted source sink device. absurd (sink ends.0)
-  is_complete statuses.PrepareFault ends = λ all tells good j wanted source sink device. absurd (device ends.0)
-  is_complete statuses.NoMemory ends = λ all tells good j wanted source sink device. inr refl
+  -- the source failed
+  pub source_traced : Rose source.faults source.faults_after → untouched → IsTraced wanted untouched source sink device statuses.SourceFault
+  source_traced rose same = record { ends = rose; asked = same; complete = λ all tells good journal some source-same. absurd (source-same rose) }
+
+  -- memory ran out before the device was asked
+  pub memory_traced : untouched → IsTraced wanted untouched source sink device statuses.NoMemory
+  memory_traced same = record { ends = tt; asked = inl same; complete = λ all tells good journal some a b c. inr refl }
+
+  module _ (bytes : List ℕ) (journal : Bool) (read : HasRead bytes source.left source.left_after) (words : wanted ≡ Some journal) where
+    abbrev what : IsRead wanted source
+    what = record { bytes = bytes; read = read; journal = journal; words = words }
+
+    -- a script without a bad line isn't too long, so all of it was read
+    at_end : (script : Script) → script_of bytes ≡ Some script → IsAtEnd source.left_after
+    at_end script reading = elim read.whole [
+      | inl end ↦ end
+      | inr long ↦ absurd (long_is_bad bytes long (good_script (fault_of bytes) (script_of_lines (lines_of bytes)) script reading))
+    ]
+
+    ends_so : EveryTraceIsRight → (status : Status) → EndsOf bytes journal sink device status → Ends wanted source sink device status
+    ends_so right statuses.Done ends = record { is = what; at_end = at_end ends.script ends.reading; runs = ends; right = right bytes ends.script ends.reading }
+    ends_so right statuses.Usage ends = absurd ends
+    ends_so right (statuses.Script fault) ends = record { is = what; bad = ends.0; written = ends.1 }
+    ends_so right statuses.SourceFault ends = absurd ends
+    ends_so right statuses.SinkFault ends = (ends.0, record { is = what; begun = ends.1 })
+    ends_so right statuses.PrepareFault ends = (ends.0, record { is = what; good = ends.1 })
+    ends_so right statuses.NoMemory ends = tt
+
+    prepared_so : (failed : Bool) → IsPrepared failed (fault_of bytes ≡ None) device → IsPrepared failed (HasReading wanted source) device
+    prepared_so failed asked = (asked.0, record { is = what; good = asked.1 })
+
+    asked_so : (status : Status) → IsAsked untouched (fault_of bytes ≡ None) device status → IsAsked untouched (HasReading wanted source) device status
+    asked_so statuses.Done asked = prepared_so false asked
+    asked_so statuses.Usage asked = asked
+    asked_so (statuses.Script fault) asked = asked
+    asked_so statuses.SourceFault asked = asked
+    asked_so statuses.SinkFault asked = elim asked [ inl same ↦ inl same | inr once ↦ inr (prepared_so false once) ]
+    asked_so statuses.PrepareFault asked = prepared_so true asked
+    asked_so statuses.NoMemory asked = elim asked [ inl same ↦ inl same | inr once ↦ inr (prepared_so false once) ]
+
+    -- of a source that told all its bytes, a bad script is none of which every line is good
+    bad_script : (all : List ℕ) → source.left ≡ Some all → fault_of all ≡ None → (fault : ScriptFault) → fault_of bytes ≡ Some fault → ⊥
+    bad_script all tells good fault bad =
+        let left = leaves all bytes source.left_after (sym tells ∙ read.taken) in
+        elim read.whole [
+          | inl end ↦
+              let none : left.rest ≡ [] = end left.rest left.tells in
+              let same : all ≡ bytes = left.parts ∙ ap (λ (l : List ℕ). bytes ++ l) none ∙ append-nil bytes in
+              let clash : None ≡ Some fault = sym good ∙ ap fault_of same ∙ bad in
+              absurd (cc clash)
+          | inr long ↦ long_is_bad all (omega (arith, long, ap length left.parts, length-append bytes left.rest)) good
+        ]
+
+    complete_so : (status : Status) → EndsOf bytes journal sink device status → IsComplete wanted source sink device status
+    complete_so statuses.Done ends = λ all tells good j some a b c. inl refl
+    complete_so statuses.Usage ends = absurd ends
+    complete_so (statuses.Script fault) ends = λ all tells good j some a b c. absurd (bad_script all tells good fault ends.0)
+    complete_so statuses.SourceFault ends = absurd ends
+    complete_so statuses.SinkFault ends = λ all tells good j some a sink-same c. absurd (sink-same ends.0)
+    complete_so statuses.PrepareFault ends = λ all tells good j some a b device-same. absurd (device-same ends.0)
+    complete_so statuses.NoMemory ends = λ all tells good j some a b c. inr refl
+
+    pub is_traced : EveryTraceIsRight → (status : Status) → EndsOf bytes journal sink device status → IsAsked untouched (fault_of bytes ≡ None) device status
+        → IsTraced wanted untouched source sink device status
+    is_traced right status ends asked = record { ends = ends_so right status ends; asked = asked_so status asked; complete = complete_so status ends }

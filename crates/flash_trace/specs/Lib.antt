@@ -6,6 +6,7 @@ pub mod Ends
 pub mod Examples
 pub mod Fronts
 pub mod Lines
+pub mod Outside
 pub mod Output
 pub mod Playing
 pub mod Replies

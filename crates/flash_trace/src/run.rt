@@ -2,9 +2,9 @@ ghost use Rattle.std.specs.Prelude.{◌≡◌, ◌↔◌, ◌<◌, ◌≤◌, �
 ghost use Rattle.flash_names.specs.Faults.{Rose, Counts};
 ghost use Rattle.flash_names.specs.Source.{IsAtEnd};
 ghost use Rattle.flash_names.specs.Told.{with_front};
-ghost use Rattle.flash_device.specs.Calls.{Called};
 ghost use Rattle.flash_trace.specs.CommandLine.{journal_wanted};
-ghost use Rattle.flash_trace.specs.Ends.{Ends, IsWritten, IsBegun, HasRead, AtDone, AtUsage, AtScript, AtSourceFault, AtSinkFault, AtPrepareFault, AtNoMemory, HasRun, HasRefused, HasBegun, HasReading, IsAsked, IsComplete};
+ghost use Rattle.flash_trace.specs.Ends.{EndsOf, IsAsked, IsWritten, IsBegun, IsTraced, HasRead, writes_nothing};
+ghost use Rattle.flash_trace.specs.Outside.{source_change, sink_change, device_change};
 ghost use Rattle.flash_trace.specs.Output.{output};
 ghost use Rattle.flash_trace.specs.Playing.{play_from};
 ghost use Rattle.flash_trace.specs.CodeScripts.{AreWithin, script_meant, step_meant};
@@ -37,17 +37,15 @@ pub fn run_trace<S: Source, K: Sink, D: Device>(
     device: &mut D,
 ) -> Status
     ensures usage { (result ≡ Status.Usage) ↔ (journal_wanted words.now ≡ None) }
-    ensures untouched { AtUsage result ((source.new ≡ source.old) × (sink.new ≡ sink.old) × (device.new ≡ device.old)) }
-    ensures output { AtDone result (HasRun (journal_wanted words.now) (D.prepared device.new) (S.left source.old) (S.left source.new) (K.held sink.old) (K.held sink.new)) }
-    ensures script { AtScript result (λ fault. HasRefused fault (journal_wanted words.now) (S.left source.old) (S.left source.new) (K.held sink.old) (K.held sink.new)) }
-    ensures source_fault { AtSourceFault result (Rose (S.faults source.old) (S.faults source.new) × (sink.new ≡ sink.old)) }
-    ensures sink_fault { AtSinkFault result (Rose (K.faults sink.old) (K.faults sink.new)) }
-    ensures begun { AtSinkFault result (HasBegun (journal_wanted words.now) (S.left source.old) (S.left source.new) (K.held sink.old) (K.held sink.new)) }
-    ensures prepare_fault { AtPrepareFault result (Rose (D.faults device.old) (D.faults device.new) × (sink.new ≡ sink.old)) }
-    ensures no_memory { AtNoMemory result (sink.new ≡ sink.old) }
-    ensures device { IsAsked (device.new ≡ device.old) (Called false (D.calls device.old) (D.calls device.new)) (Called true (D.calls device.old) (D.calls device.new)) (HasReading (journal_wanted words.now) (S.left source.old) (S.left source.new)) result }
-    ensures complete { IsComplete (journal_wanted words.now) (S.left source.old) (Rose (S.faults source.old) (S.faults source.new)) (Rose (K.faults sink.old) (K.faults sink.new)) (Rose (D.faults device.old) (D.faults device.new)) result }
+    ensures untouched { result ≡ Status.Usage
+        → (source.new ≡ source.old) × (sink.new ≡ sink.old) × (device.new ≡ device.old) }
+    ensures unwritten { writes_nothing result ≡ true → sink.new ≡ sink.old }
+    ensures traced { IsTraced (journal_wanted words.now) (device.new ≡ device.old)
+        (source_change S.left S.faults source.old source.new)
+        (sink_change K.held K.faults sink.old sink.new)
+        (device_change D.prepared D.calls D.faults device.old device.new) result }
 {
+    // The law has no body: the call brings what it says of every script into this function's proof.
     every_trace_is_right();
     let Some(with_journal) = read_trace_words(words) else {
         return Status::Usage;
@@ -137,8 +135,11 @@ fn run_bytes<K: Sink, D: Device>(
     sink: &mut K,
     device: &mut D,
 ) -> Status
-    ensures device { IsAsked (device.new ≡ device.old) (Called false (D.calls device.old) (D.calls device.new)) (Called true (D.calls device.old) (D.calls device.new)) (fault_of bytes.now ≡ None) result }
-    ensures ends { Ends bytes.now with_journal (sink.new ≡ sink.old) (Rose (K.faults sink.old) (K.faults sink.new)) (Rose (D.faults device.old) (D.faults device.new)) (D.prepared device.new) (K.held sink.old) (K.held sink.new) result }
+    ensures unwritten { writes_nothing result ≡ true → sink.new ≡ sink.old }
+    ensures asked { IsAsked (device.new ≡ device.old) (fault_of bytes.now ≡ None)
+        (device_change D.prepared D.calls D.faults device.old device.new) result }
+    ensures ends { EndsOf bytes.now with_journal (sink_change K.held K.faults sink.old sink.new)
+        (device_change D.prepared D.calls D.faults device.old device.new) result }
 {
     match read_script(alloc, bytes) {
         Ok(script) => run_script(alloc, with_journal, bytes, &script, sink, device),
@@ -167,8 +168,11 @@ fn run_script<K: Sink, D: Device>(
     requires reading { script_of bytes.now ≡ Some (script_meant bytes.now script.now) }
     requires first_line { script.now.steps_offset ≤ length bytes.now }
     requires within { AreWithin (length bytes.now) script.now.steps.items }
-    ensures device { IsAsked (device.new ≡ device.old) (Called false (D.calls device.old) (D.calls device.new)) (Called true (D.calls device.old) (D.calls device.new)) (fault_of bytes.now ≡ None) result }
-    ensures ends { Ends bytes.now with_journal (sink.new ≡ sink.old) (Rose (K.faults sink.old) (K.faults sink.new)) (Rose (D.faults device.old) (D.faults device.new)) (D.prepared device.new) (K.held sink.old) (K.held sink.new) result }
+    ensures unwritten { writes_nothing result ≡ true → sink.new ≡ sink.old }
+    ensures asked { IsAsked (device.new ≡ device.old) (fault_of bytes.now ≡ None)
+        (device_change D.prepared D.calls D.faults device.old device.new) result }
+    ensures ends { EndsOf bytes.now with_journal (sink_change K.held K.faults sink.old sink.new)
+        (device_change D.prepared D.calls D.faults device.old device.new) result }
 {
     match device.prepare(script.geometry.pages, script.geometry.page_size) {
         Ok(()) => {}
