@@ -16,6 +16,7 @@ mod Numbered
 mod Outcomes
 mod Pieces
 mod Playback
+mod Printed
 mod Recorded
 mod Returned
 mod Right

@@ -11,7 +11,7 @@ use Rattle.flash_core.specs.Store.{Desk, Call}
 use Rattle.flash_core.specs.Calls.{clock_call}
 use Rattle.flash_trace.specs.declared.command.Command.{Command}
 use Rattle.flash_trace.specs.Answers.{asks_of, bytes_for, bytes_before_last_run, bytes_to, is_run, moment_after, moment_with, IsRight, EveryPlayIsRight}
-use Rattle.flash_trace.specs.Commands.{commands_of}
+use Rattle.flash_trace.specs.Commands.{commands_of, is_at_end}
 use Rattle.flash_trace.specs.Playing.{Seat, StoreState, Play, first_play, after_call, act_all, seat_at, with_seat, with_line, seat_after_input, say, seat_after_run, run, clock, play_step, play_from, play_of}
 use Rattle.flash_trace.specs.Seats.{IsNumbered}
 use Rattle.flash_trace.specs.Steps.{Step, Clock, Say, Run, IsSession, IsSeated, AreSeated}
@@ -74,6 +74,7 @@ module _ (g : Geometry) where
         read = up.read;
         served = served_behind g session p.kept.journal call.entries up.done seat.last seat.replies (clock_keeps session (asks_of up.done) p.kept.cache p.kept.desk reading) up.served;
         ended = up.ended;
+        closed_is = up.closed_is;
       } in
       subst (λ (k : StoreState). IsUpTo g session (given session) (turned session) k.journal (seat_at (clock p line reading) session)) (sym (kept_clock p line reading))
       (subst (IsUpTo g session (given session) (turned session) (after_call p.kept call).journal) there after)
@@ -166,6 +167,7 @@ module _ (g : Geometry) where
           read = record { commands_are = none ∙ up.read.commands_are; reader_is = act_all_reader g session before (seat_at p session).waiting ∙ up.read.reader_is };
           served = run_serves.served;
           ended = λ closed. closed;
+          closed_is = ap is_at_end (act_all_reader g session before (seat_at p session).waiting ∙ up.read.reader_is ∙ ap (λ (l : List ℕ). (commands_of g.item_max l).1) (sym turns));
         }
 
     -- and each other is where it was
@@ -181,6 +183,7 @@ module _ (g : Geometry) where
           read = up.read;
           served = act_all_serves_other g session other before (seat_at p session).waiting up.done seat.last seat.replies (λ same. differ (sym same)) up.served;
           ended = up.ended;
+          closed_is = up.closed_is ∙ ap (λ (l : List ℕ). is_at_end (commands_of g.item_max l).1) (sym turns);
         }
 
     run_holds : Holds g (run g p session) now (λ other. given other ++ []) after_turn
@@ -194,7 +197,7 @@ module _ (g : Geometry) where
     }
 
   -- each step keeps all of it
-  step_holds : (p : Play) (line : ℕ) (step : Step) (now : ℕ) (given turned : ℕ → List ℕ) → IsSeated step → Holds g p now given turned
+  pub step_holds : (p : Play) (line : ℕ) (step : Step) (now : ℕ) (given turned : ℕ → List ℕ) → IsSeated step → Holds g p now given turned
       → Holds g (play_step g p line step) (moment_with now step) (λ session. given session ++ bytes_for session step) (λ session. if is_run session step then given session else turned session)
   step_holds p line (Clock reading) now given turned seated was = clock_holds p line reading now given turned was
   step_holds p line (Say session bytes) now given turned seated was = say_holds p line session bytes now given turned was seated
@@ -211,7 +214,7 @@ module _ (g : Geometry) where
       subst (λ (all : ℕ → List ℕ). Holds g (play_from g p line (step ∷ steps)) (moment_after now (step ∷ steps)) all with_more) (λ j session. append_assoc (given session) (bytes_for session step) (bytes_to session steps) j) after
 
   -- before the first step
-  first_holds : Holds g first_play 0 (λ session. []) (λ session. [])
+  pub first_holds : Holds g first_play 0 (λ session. []) (λ session. [])
   first_holds = record {
     moment = refl;
     kept = record { run = record { legal = tt; same = refl }; here = first_here };

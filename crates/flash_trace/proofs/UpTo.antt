@@ -19,6 +19,7 @@ pub record IsUpTo (g : Geometry) (session : ℕ) (bytes turns : List ℕ) (journ
   pub read : IsRead g.item_max bytes (done ++ seat.waiting) seat.reader
   pub served : IsServed g session journal done seat.last seat.replies
   pub ended : IsTrue seat.closed → IsTrue (is_at_end seat.reader)
+  pub closed_is : seat.closed ≡ is_at_end (commands_of g.item_max turns).1
 
 module _ (g : Geometry) where
   -- no bytes more
@@ -39,6 +40,7 @@ module _ (g : Geometry) where
             (read_more g.item_max given more (up.done ++ seat.waiting) seat.reader up.read);
         served = up.served;
         ended = λ closed. absurd (cc (reads, closed));
+        closed_is = up.closed_is;
       }
 
   -- a session that is closed reads no more
@@ -50,6 +52,7 @@ module _ (g : Geometry) where
     read = read_at_end g.item_max given (bytes ++ 13 ∷ 10 ∷ []) (up.done ++ seat.waiting) seat.reader (up.ended closed) up.read;
     served = up.served;
     ended = up.ended;
+    closed_is = up.closed_is;
   }
 
   -- before the first step
@@ -60,6 +63,7 @@ module _ (g : Geometry) where
     read = read_none g.item_max;
     served = record { replies_are = refl; last_is = refl; keeps = tt; known = λ seq from to. absurd (omega (arith, from, to)) };
     ended = λ closed. absurd (cc closed);
+    closed_is = refl;
   }
 
   -- a session that is up to its bytes was answered
@@ -70,5 +74,5 @@ module _ (g : Geometry) where
     replies = up.served.replies_are ∙ ap (λ (done : List Command). concat (answers g done session journal)) up.done_are;
     known = λ seq from to. up.served.known seq from (omega (arith, to, up.served.last_is, ap (λ (done : List Command). length (asks_of done)) up.done_are));
     keeps = subst (λ (done : List Command). Keeps done session journal) up.done_are up.served.keeps;
-    ended = up.ended;
+    closed = up.closed_is;
   }

@@ -146,7 +146,7 @@ pub record IsAnswered (g : Geometry) (session : ℕ) (bytes turns : List ℕ) (j
   pub replies : seat.replies ≡ concat (answers g (commands_of g.item_max turns).0 session journal)
   pub known : (seq : ℕ) → 1 ≤ seq → seq ≤ length (asks_of (commands_of g.item_max turns).0) → HasEntry g session seq journal
   pub keeps : Keeps (commands_of g.item_max turns).0 session journal
-  pub ended : IsTrue seat.closed → IsTrue (is_at_end seat.reader)
+  pub closed : seat.closed ≡ is_at_end (commands_of g.item_max turns).1
 
 -- the moment of a store after steps: the greatest reading of the clock, which counts up to 2^62
 abbrev pub moment_with : ℕ → Step → ℕ

@@ -9,6 +9,7 @@ pub mod Lines
 pub mod Outside
 pub mod Output
 pub mod Playing
+pub mod Printing
 pub mod Replies
 pub mod ScriptLaws
 pub mod Scripts

@@ -2,6 +2,7 @@
 ghost use Rattle.flash_trace.specs.Answers.{EveryPlayIsRight};
 ghost use Rattle.flash_trace.specs.Ends.{EveryTraceIsRight};
 ghost use Rattle.flash_trace.specs.Fronts.{EachFrontMakesAFront};
+ghost use Rattle.flash_trace.specs.Printing.{EveryPlayIsPrinted};
 ghost use Rattle.flash_trace.specs.ScriptLaws.{AreReadOrBad, IsReadByLines, IsFirstBadLine, IsBadFirstLine, IsShortLine, IsShortFirstLine, HasTooManyBytes, HasSeats};
 
 /// Bytes are read as a script, and in one way, exactly where no line of theirs is bad.
@@ -35,6 +36,12 @@ pub fn each_session_has_a_seat()
 /// and the journal say.
 pub fn every_play_is_right()
     ensures { EveryPlayIsRight }
+{}
+
+/// Each step of a script prints the line that the script's text says, and none else, and the sessions that are made are
+/// those that a step names.
+pub fn every_play_is_printed()
+    ensures { EveryPlayIsPrinted }
 {}
 
 /// The steps before a script make a journal that the whole script's goes on from: what a turn did is not changed

@@ -19,7 +19,7 @@ pub use examples::worked_example;
 pub use fault::{ScriptFault, Status, Why};
 pub use laws::{
     each_front_makes_a_front, each_line_is_read, each_script_is_read_or_bad,
-    each_session_has_a_seat, every_play_is_right, every_trace_is_right,
+    each_session_has_a_seat, every_play_is_printed, every_play_is_right, every_trace_is_right,
     the_first_bad_line_is_the_fault,
 };
 pub use run::run_trace;
