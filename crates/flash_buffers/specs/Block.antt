@@ -3,7 +3,7 @@ use Rattle.std.specs.Prelude.{ℕ, ◌+◌, ◌-◌, Bool, nat_le, List, ◌++�
 use Rattle.std.specs.Option.{option_and_then}
 use Rattle.flash_names.specs.declared.place.Label.{Label}
 use Rattle.flash_names.specs.declared.place.Place.{Place}
-use Rattle.flash_record.specs.Record.{Parts, record_length, record_bytes}
+use Rattle.flash_record.specs.Record.{parts_with, Parts, record_length, record_bytes}
 
 -- the label of its page, where it begins in the page, and the bytes of its records, one after the other
 pub record Block : Type 0 where
@@ -34,8 +34,7 @@ fits_in size n block = nat_le (length block.records + n) size
 
 -- the record of these parts, with the version of the block's label
 abbrev pub parts_in : List ℕ → ℕ → ℕ → List ℕ → Block → Parts
-parts_in key flags cas value block =
-    record { key = key; flags = flags; cas = cas; version = block.label.version; value = value }
+parts_in key flags cas value block = parts_with key flags cas block.label.version value
 
 -- where the record is to be, if it fits
 abbrev pub next_place : ℕ → Parts → Block → Option Place

@@ -1,6 +1,7 @@
 -- What any list of calls keeps: the records that are read, the job that is out, and the order of the queue.
 use Rattle.std.specs.Prelude.{◌≡◌, ℕ, ◌^◌, ◌<◌, ◌≤◌, ◌⊎◌, false, List, [], ◌∷◌, ◌++◌, length, take}
 use Rattle.flash_names.specs.declared.place.Place.{Place}
+use Rattle.flash_names.specs.CallLists.{state_after, AreAllowed}
 use Rattle.flash_names.specs.Labels.{same_label}
 use Rattle.flash_buffers.specs.Covering.{covers}
 use Rattle.flash_buffers.specs.BufferTable.{BufferTable, oldest_block}
@@ -8,13 +9,11 @@ use Rattle.flash_buffers.specs.Calls.{Call, takes, appends, seals, begins, write
 
 -- each of the calls may be made when it comes
 abbrev pub AllAllowed : BufferTable → List Call → Type 0
-AllAllowed t [] = Unit {0}
-AllAllowed t (call ∷ rest) = Allowed t call × AllAllowed (table_after call t) rest
+AllAllowed t calls = AreAllowed Allowed table_after t calls
 
 -- the buffers after the calls, the first one first
 abbrev pub after_all : List Call → BufferTable → BufferTable
-after_all [] t = t
-after_all (call ∷ rest) t = after_all rest (table_after call t)
+after_all calls t = state_after table_after calls t
 
 -- the call neither says that the block of this place was written nor drops the place's label
 abbrev pub Leaves : BufferTable → Place → Call → Type 0

@@ -1,5 +1,5 @@
 ghost use Rattle.std.specs.Prelude.{◌≡◌, ℕ, ◌+◌, ◌-◌, ◌^◌, ◌<◌, ◌≤◌, ◌++◌, nat_le, if◌then◌else◌, take, drop, replicate, IfNone, length, IfOk, IfSome, IsTrue, is_none, [], Option, Some, None, option_map};
-ghost use Rattle.flash_record.specs.Record.{Parts, record_bytes, record_length};
+ghost use Rattle.flash_record.specs.Record.{parts_with, Parts, record_bytes, record_length};
 ghost use Rattle.flash_buffers.specs.Block.{Slot, block_bytes, block_place, fits_in, place_in, block_with_record};
 ghost use Rattle.flash_buffers.specs.BufferTable.{slot_without};
 ghost use Rattle.flash_buffers.specs.Covering.{has_label, covers, bytes_in};
@@ -146,7 +146,8 @@ impl Buffer {
     /// answers its place; `None` where it doesn't fit.
     pub fn append(&mut self, key: &Key, flags: u32, cas: u64, value: &[u8]) -> Option<Place>
         ensures place { result ≡ place_in self.old.size key.now flags cas value.now self.old.block }
-        ensures after { self.new ≡ record self.old { block = block_with_record self.old.size key.now flags cas value.now self.old.block } }
+        ensures after { let block = block_with_record self.old.size key.now flags cas value.now self.old.block in
+            self.new ≡ record self.old { block = block } }
     {
         let label = self.label?;
         let used = self.used;
@@ -181,9 +182,9 @@ fn write_behind(
 ) -> Option<usize>
     requires used { used ≤ length bytes.old }
     requires short { length bytes.old < 2 ^ 32 }
-    ensures answer { let p : Parts = record { key = key.now; flags = flags; cas = cas; version = version; value = value.now } in
+    ensures answer { let p = parts_with key.now flags cas version value.now in
         result ≡ (if nat_le (used + record_length p) (length bytes.old) then Some (record_length p) else None) }
-    ensures written { let p : Parts = record { key = key.now; flags = flags; cas = cas; version = version; value = value.now } in
+    ensures written { let p = parts_with key.now flags cas version value.now in
         IfSome result (λ n. bytes.new ≡ take used bytes.old ++ (record_bytes p ++ drop (used + n) bytes.old)) }
     ensures inside { IfSome result (λ n. used + n ≤ length bytes.old) }
     ensures refused { IfNone result (bytes.new ≡ bytes.old) }

@@ -1,4 +1,11 @@
 //! The store: a cache whose every call notes what it did in a journal.
+//!
+//! `Core::open` makes an empty one over a journal. `store` and `look` are the steps of commands, `clock` sets the moment,
+//! `journal` lends the journal. A step has an `Id` of a pass and a number, which has to be new.
+//!
+//! `specs/Calls.antt` says what each call notes, answers and leaves, from the cache and the desk before it. It is proved
+//! that each call does exactly that; that the journal is a run of the one-thread cache, where it tells its entries, and
+//! the store's cache is the one that it makes; and that a call for which there is no memory changes nothing.
 #![tactic(auto)]
 
 mod choice;

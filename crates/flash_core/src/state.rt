@@ -10,6 +10,7 @@ use flash_entry::Journal;
 use flash_names::{BadGeometry, Geometry};
 use std::alloc::Global;
 use std::marker::Model;
+use thiserror::Error;
 
 /// A store over a journal. Each call notes in the journal what it did to a one-thread cache.
 #[derive(Drop)]
@@ -45,11 +46,13 @@ impl<J: Journal> Model for Core<J> {
 }
 
 /// Why a store wasn't opened.
-#[derive(Clone, Copy, Debug, PartialEq, Eq)]
+#[derive(Clone, Copy, Debug, PartialEq, Eq, Error)]
 pub enum OpenWhy {
     /// The number of the first rule that the geometry breaks.
+    #[error("the geometry breaks rule {0}")]
     BadGeometry(u32),
     /// Memory ran out. Opening a store takes none today, so that it doesn't come.
+    #[error("out of memory")]
     NoMemory,
 }
 

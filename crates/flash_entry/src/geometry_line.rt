@@ -8,15 +8,19 @@ use crate::text::Text;
 use arrayvec::ArrayVec;
 use flash_names::{BadGeometry, Blob, Geometry, read_number, split_word};
 use std::alloc::{AllocError, Global};
+use thiserror::Error;
 
 /// Why a line isn't the geometry line of a script or a journal.
-#[derive(Clone, Copy, Debug, PartialEq, Eq)]
+#[derive(Clone, Copy, Debug, PartialEq, Eq, Error)]
 pub enum HeadFault {
     /// Its first word isn't `store`, or there aren't eleven after it.
+    #[error("a word is unknown, or there are more or fewer than twelve")]
     BadWord,
     /// One of them is no number, or too large for its field.
+    #[error("a number can not be read, or is too large for its field")]
     BadNumber,
     /// The number, from 1 to 10, of the first rule that the geometry breaks.
+    #[error("the geometry breaks rule {0}")]
     Geometry(u32),
 }
 

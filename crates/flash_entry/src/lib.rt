@@ -1,4 +1,13 @@
 //! What the store is asked and what it answers, the entries of its journal, and their text.
+//!
+//! - `Ask` and its parts are the steps of commands; `Told` and its parts are their answers.
+//! - `Entry` is what happened to the store. A `Note` is the same, borrowed. `Journal::note` appends up to four of them,
+//!   all or none.
+//! - `Kept` is a journal that keeps its entries and tells them. `Counted` counts them and is always ready.
+//! - `print_entry` gives the line of an entry; `read_head` and `print_head` read and print the line of a geometry.
+//!
+//! It is proved what `note` leaves, the text of each kind of entry, the first fault of a geometry line, and that a printed
+//! geometry line is read back.
 #![tactic(auto)]
 
 mod answer;

@@ -1,4 +1,5 @@
 pub mod Adapters
+pub mod CallLists
 pub mod Clock
 pub mod Cut
 pub mod FaultPlan

@@ -1,5 +1,15 @@
-//! The names that every crate of the cache shares: keys, blocks of bytes, labels and places of pages,
-//! the geometry of a store, and the traits of the outside world.
+//! The names that every crate of the cache shares.
+//!
+//! - `Key`, `Blob`, `Label`, `Place`, `Id`: a key of 1 to 250 bytes, bytes on the heap, a page with its version, a range
+//!   of a page, and the number of a step. `key_hash` hashes a key.
+//! - `Geometry`: the sizes of a store. `Geometry::check` names the first of its ten rules that is broken.
+//! - `Source`, `Sink`, `Clock`: the outside of the program as traits. Each tells what it gives or holds, where it can,
+//!   and has a count of faults that never falls: a fault comes only where the count rose.
+//! - `MemorySource`, `MemorySink`, `ListClock`: the same in memory, for tests. `ReaderSource` and `WriterSink` adapt the
+//!   readers and writers of the standard library.
+//! - `Shared`: what a lock has to know of the value that it guards.
+//!
+//! Each function gives exactly the value of its definition in `specs/`.
 #![tactic(auto)]
 
 mod adapters;

@@ -1,6 +1,7 @@
 -- What any list of calls keeps: pins, and the labels that they give.
 use Rattle.std.specs.Prelude.{◌≡◌, ℕ, ◌+◌, ◌<◌, Bool, false, not, ◌&&◌, nat_eq, List, [], ◌∷◌, ◌++◌, if◌then◌else◌}
 use Rattle.flash_names.specs.declared.place.Label.{Label}
+use Rattle.flash_names.specs.CallLists.{state_after, AreAllowed}
 use Rattle.flash_names.specs.Labels.{same_label}
 use Rattle.flash_pages.specs.declared.page_row.PageRow.{PageRow}
 use Rattle.flash_pages.specs.declared.pages.Opened.{Opened}
@@ -12,13 +13,11 @@ use Rattle.flash_pages.specs.Calls.{Call, opens, pins, unpins, adds_live, takes_
 
 -- each of the calls may be made when it comes
 abbrev pub AllAllowed : PageTable → List Call → Type 0
-AllAllowed t [] = Unit {0}
-AllAllowed t (call ∷ rest) = Allowed t call × AllAllowed (table_after call t) rest
+AllAllowed t calls = AreAllowed Allowed table_after t calls
 
 -- the pages after the calls, the first one first
 abbrev pub after_all : List Call → PageTable → PageTable
-after_all [] t = t
-after_all (call ∷ rest) t = after_all rest (table_after call t)
+after_all calls t = state_after table_after calls t
 
 -- the label of a page that is opened, if there is one
 abbrev pub label_of : Opened → List Label

@@ -11,6 +11,11 @@ pub record Parts : Type 0 where
   pub version : ℕ
   pub value : List ℕ
 
+-- these parts
+abbrev pub parts_with : List ℕ → ℕ → ℕ → ℕ → List ℕ → Parts
+parts_with key flags cas version value =
+    record { key = key; flags = flags; cas = cas; version = version; value = value }
+
 -- which parts have a record: a key of 1 to 250 bytes, a value of fewer than 2^32, and numbers of their widths
 pub record Fits (p : Parts) : Type 0 where
   pub key : (1 ≤ length p.key) × (length p.key ≤ 250)

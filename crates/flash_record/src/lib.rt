@@ -1,5 +1,9 @@
 //! The records that lie on flash: their bytes, how they are written, and how they are read.
 //!
+//! `write_record` writes one at the front of a slice, `read_record` reads the one at the front, `is_record_of` tests
+//! whether bytes are the record of a key, a CAS number and a version. It is proved that each is exact, with the first
+//! reason why bytes are no record, and that no record begins another.
+//!
 //! | Offset | Bytes | Content, each number with its highest byte first |
 //! |---|---|---|
 //! | 0 | 3 | `46 52 01` |

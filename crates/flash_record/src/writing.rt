@@ -1,5 +1,5 @@
 ghost use Rattle.std.specs.Prelude.{◌≡◌, ◌+◌, ◌^◌, ◌<◌, ◌≤◌, ◌++◌, Some, None, length, take, drop, IfSome, IfNone, if◌then◌else◌};
-ghost use Rattle.flash_record.specs.Record.{Parts, record_bytes, record_length, content};
+ghost use Rattle.flash_record.specs.Record.{parts_with, Parts, record_bytes, record_length, content};
 ghost use Rattle.flash_record.specs.Writing.{has_room};
 
 use crate::layout::{CHECKSUM_LENGTH, HEAD_LENGTH, MAGIC};
@@ -17,9 +17,9 @@ pub fn write_record(
     version: u64,
     value: &[u8],
 ) -> Option<usize>
-    ensures answer { let p : Parts = record { key = key.now; flags = flags; cas = cas; version = version; value = value.now } in
+    ensures answer { let p = parts_with key.now flags cas version value.now in
         result ≡ (if has_room (length into.old) p then Some (record_length p) else None) }
-    ensures written { let p : Parts = record { key = key.now; flags = flags; cas = cas; version = version; value = value.now } in
+    ensures written { let p = parts_with key.now flags cas version value.now in
         IfSome result (λ n. into.new ≡ record_bytes p ++ drop n into.old) }
     ensures refused { IfNone result (into.new ≡ into.old) }
 {
@@ -49,7 +49,7 @@ fn write_content(
     requires value { length value.now < 2 ^ 32 }
     requires room { 32 + length key.now + length value.now ≤ length into.old }
     ensures place { result ≡ 28 + length key.now + length value.now }
-    ensures written { let p : Parts = record { key = key.now; flags = flags; cas = cas; version = version; value = value.now } in
+    ensures written { let p = parts_with key.now flags cas version value.now in
         take result into.new ≡ content p }
     ensures rest { drop result into.new ≡ drop result into.old }
 {

@@ -1,5 +1,8 @@
-//! `flash_server`: a memcached server with flash storage. The program looks at its first word and calls the
-//! library.
+//! `flash_server`: a memcached server with flash storage.
+//!
+//! The program looks at its first word and calls the library: `trace` hands standard input and output to
+//! `flash_trace::run_trace`. A usage or fault text goes to standard error. It is proved which exit status each end of a
+//! trace has.
 #![tactic(auto)]
 
 mod status;

@@ -34,7 +34,8 @@ same_id a b = nat_eq a.pass b.pass && nat_eq a.seq b.seq
 abbrev pub found_outcome : Cache → looks.Look → Option Item → Told
 found_outcome c look None = told.Found found.Miss
 found_outcome c look (Some item) =
-    told.Found (if look.value then found.Hit (record { head = head_of_item c look item; value = item.value }) else found.Head (head_of_item c look item))
+    told.Found (if look.value then found.Hit (record { head = head_of_item c look item; value = item.value })
+    else found.Head (head_of_item c look item))
 
 abbrev pub done_outcome : Done → Told
 done_outcome (deeds.Store put answer) = told.Stored answer
@@ -47,13 +48,15 @@ done_outcome (deeds.Stats tally) = told.Tally tally
 -- the outcome that an entry gives the step of this number, if it is that step's
 abbrev pub entry_outcome : List Entry → Cache → Id → Entry → Option Told
 entry_outcome journal c id (entries.Did other done) = if same_id other id then Some (done_outcome done) else None
-entry_outcome journal c id (entries.Looked other key look residence) = if same_id other id then Some (found_outcome c look (live_item journal c key)) else None
+entry_outcome journal c id (entries.Looked other key look residence) =
+    if same_id other id then Some (found_outcome c look (live_item journal c key)) else None
 entry_outcome journal c id _ = None
 
 -- the outcome of a step, from the entries after a journal, if one of them is its own
 abbrev pub outcome_from : Geometry → List Entry → Cache → Id → List Entry → Option Told
 outcome_from g journal c id [] = None
-outcome_from g journal c id (e ∷ es) = option_or (entry_outcome journal c id e) (outcome_from g (journal ++ e ∷ []) (next g journal c e) id es)
+outcome_from g journal c id (e ∷ es) =
+    option_or (entry_outcome journal c id e) (outcome_from g (journal ++ e ∷ []) (next g journal c e) id es)
 
 -- a step without an entry of its own had no memory
 abbrev pub or_no_memory : Option Told → Told
@@ -86,7 +89,8 @@ reply_to g pass seq journal command (Some ask) rest = step_text command (outcome
 -- the replies to a pass's commands, in order, none left out; steps are numbered through all commands
 abbrev pub answers_from : Geometry → ℕ → List Entry → List Command → ℕ → List (List ℕ)
 answers_from g pass journal [] seq = []
-answers_from g pass journal (command ∷ more) seq = reply_to g pass seq journal command (ask_of command) (answers_from g pass journal more)
+answers_from g pass journal (command ∷ more) seq =
+    reply_to g pass seq journal command (ask_of command) (answers_from g pass journal more)
 
 abbrev pub answers : Geometry → List Command → ℕ → List Entry → List (List ℕ)
 answers g commands pass journal = answers_from g pass journal commands 1
@@ -134,17 +138,20 @@ has_run session steps = list_any (is_run session) steps
 -- the bytes that a script gives to a session before its last turn: those that have a turn after them
 abbrev pub bytes_before_last_run : ℕ → List Step → List ℕ
 bytes_before_last_run session [] = []
-bytes_before_last_run session (step ∷ steps) = (if has_run session steps then bytes_for session step else []) ++ bytes_before_last_run session steps
+bytes_before_last_run session (step ∷ steps) =
+    (if has_run session steps then bytes_for session step else []) ++ bytes_before_last_run session steps
 
 -- What a session was answered, where it was given these bytes, and `turns` of them before its last turn: its
 -- reader has read them all; each command in `turns` is done, and those that the other bytes end wait after them; the
 -- replies to the commands that are done, in order, none left out, are what it was answered; each of their steps has an
 -- entry in the journal; the journal has no other steps of it; and it is closed only where its bytes end it
-pub record IsAnswered (g : Geometry) (session : ℕ) (bytes turns : List ℕ) (journal : List Entry) (seat : Seat) : Type 0 where
+pub record IsAnswered (g : Geometry) (session : ℕ) (bytes turns : List ℕ) (journal : List Entry)
+    (seat : Seat) : Type 0 where
   pub read : seat.reader ≡ (commands_of g.item_max bytes).1
   pub waiting : (commands_of g.item_max bytes).0 ≡ (commands_of g.item_max turns).0 ++ seat.waiting
   pub replies : seat.replies ≡ concat (answers g (commands_of g.item_max turns).0 session journal)
-  pub known : (seq : ℕ) → 1 ≤ seq → seq ≤ length (asks_of (commands_of g.item_max turns).0) → HasEntry g session seq journal
+  pub known : (seq : ℕ) → 1 ≤ seq → seq ≤ length (asks_of (commands_of g.item_max turns).0)
+      → HasEntry g session seq journal
   pub keeps : Keeps (commands_of g.item_max turns).0 session journal
   pub closed : seat.closed ≡ is_at_end (commands_of g.item_max turns).1
 
@@ -162,7 +169,9 @@ moment_after now (step ∷ steps) = moment_after (moment_with now step) steps
 pub record IsRight (g : Geometry) (steps : List Step) : Type 0 where
   pub legal : Legal g (play_of g steps).kept.journal
   pub moment : (cache_of g (play_of g steps).kept.journal).now ≡ moment_after 0 steps
-  pub answered : (session : ℕ) → IsSession session → IsAnswered g session (bytes_to session steps) (bytes_before_last_run session steps) (play_of g steps).kept.journal (seat_at (play_of g steps) session)
+  pub answered : (session : ℕ) → IsSession session
+      → IsAnswered g session (bytes_to session steps) (bytes_before_last_run session steps)
+      (play_of g steps).kept.journal (seat_at (play_of g steps) session)
 
 abbrev pub EveryPlayIsRight : Type 0
 EveryPlayIsRight = (g : Geometry) (steps : List Step) → AreSeated steps → IsRight g steps

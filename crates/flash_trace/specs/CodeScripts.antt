@@ -22,7 +22,11 @@ step_meant bytes (code.Run session) = Run session.number
 -- what the code's script means
 abbrev pub script_meant : List ℕ → code_script.Script → Script
 script_meant bytes script =
-    record { geometry = script.geometry; first_line = take script.steps_offset bytes; steps = map (step_meant bytes) script.steps.items }
+    record {
+      geometry = script.geometry;
+      first_line = take script.steps_offset bytes;
+      steps = map (step_meant bytes) script.steps.items;
+    }
 
 -- places of a script of this length
 pub record IsRange (first : ℕ) (last : ℕ) (size : ℕ) : Type 0 where

@@ -6,5 +6,6 @@ use Rattle.std.specs.Str.{bytes_eq}
 abbrev pub journal_wanted : List (List ℕ) → Option Bool
 journal_wanted [] = None
 journal_wanted (trace ∷ []) = if bytes_eq trace (codes "trace") then Some false else None
-journal_wanted (trace ∷ journal ∷ []) = if bytes_eq trace (codes "trace") && bytes_eq journal (codes "--journal") then Some true else None
+journal_wanted (trace ∷ journal ∷ []) =
+    if bytes_eq trace (codes "trace") && bytes_eq journal (codes "--journal") then Some true else None
 journal_wanted (trace ∷ journal ∷ more) = None

@@ -37,7 +37,8 @@ line_read lines.Unknown = (commands.Refused refusals.Unknown ∷ [], InLine [])
 -- a byte in a line: 65,536 of them without a line feed end the session
 abbrev pub in_line : ℕ → List ℕ → ℕ → Read
 in_line item_max line b =
-    if b == 10 then line_read (line_of item_max line) else ([], (if nat_lt (length line + 1) 65536 then InLine (line ++ b ∷ []) else Ended))
+    if b == 10 then line_read (line_of item_max line)
+    else ([], (if nat_lt (length line + 1) 65536 then InLine (line ++ b ∷ []) else Ended))
 
 -- a byte in a skip: the line feed ends it
 abbrev pub in_skip : ℕ → ℕ → Reader
@@ -54,12 +55,14 @@ bad_chunk read = (commands.Refused refusals.BadChunk ∷ read.0, read.1)
 
 -- the value that a storage line and its block ask to be stored
 abbrev pub put_of : SetLine → List ℕ → Put
-put_of line block = record { key = line.key; mode = modes.Set; flags = line.flags; exptime = line.exptime; compare = None; value = block }
+put_of line block =
+    record { key = line.key; mode = modes.Set; flags = line.flags; exptime = line.exptime; compare = None; value = block }
 
 -- the second byte after a block
 abbrev pub behind_block : ℕ → SetLine → List ℕ → ℕ → ℕ → Read
 behind_block item_max line block a b =
-    if (a == 13) && (b == 10) then (commands.Store (put_of line block) ∷ [], InLine []) else bad_chunk (after_skip item_max (in_skip 0 a) b)
+    if (a == 13) && (b == 10) then (commands.Store (put_of line block) ∷ [], InLine [])
+    else bad_chunk (after_skip item_max (in_skip 0 a) b)
 
 abbrev pub behind_byte : ℕ → SetLine → List ℕ → List ℕ → ℕ → Read
 behind_byte item_max line block [] b = ([], Behind line block (b ∷ []))
@@ -68,7 +71,11 @@ behind_byte item_max line block (a ∷ _) b = behind_block item_max line block a
 -- one byte
 abbrev pub read_byte : ℕ → Reader → ℕ → Read
 read_byte item_max (InLine line) b = in_line item_max line b
-read_byte item_max (InBlock line block) b = ([], (if nat_lt (length block + 1) line.size then InBlock line (block ++ b ∷ []) else Behind line (block ++ b ∷ []) []))
+read_byte item_max (InBlock line block) b = (
+  [],
+  (if nat_lt (length block + 1) line.size then InBlock line (block ++ b ∷ [])
+      else Behind line (block ++ b ∷ []) []),
+)
 read_byte item_max (Behind line block two) b = behind_byte item_max line block two b
 read_byte item_max (Skipping n) b = ([], in_skip n b)
 read_byte item_max Ended b = ([], Ended)

@@ -64,14 +64,16 @@ pub record IsRead (wanted : Option Bool) (source : SourceChange) : Type 0 where
 
 -- all that there is was read, it is a script without a bad line, which makes a run of the one-thread cache in which
 -- each session is answered, the device is prepared for it, and its whole output was written
-pub record HasRun (wanted : Option Bool) (source : SourceChange) (sink : SinkChange) (device : DeviceChange) : Type 0 where
+pub record HasRun (wanted : Option Bool) (source : SourceChange) (sink : SinkChange)
+    (device : DeviceChange) : Type 0 where
   pub is : IsRead wanted source
   pub at_end : IsAtEnd source.left_after
   pub runs : Runs is.bytes is.journal sink device
   pub right : IsRight runs.script.geometry runs.script.steps
 
 -- this is the first bad line of what was read, and its line was written
-pub record HasRefused (fault : ScriptFault) (wanted : Option Bool) (source : SourceChange) (sink : SinkChange) : Type 0 where
+pub record HasRefused (fault : ScriptFault) (wanted : Option Bool) (source : SourceChange)
+    (sink : SinkChange) : Type 0 where
   pub is : IsRead wanted source
   pub bad : fault_of is.bytes ≡ Some fault
   pub written : IsWritten (fault_text fault) sink.held sink.held_after
@@ -102,7 +104,8 @@ Ends wanted source sink device statuses.NoMemory = Unit {0}
 abbrev pub IsPrepared : Bool → Type 0 → DeviceChange → Type 0
 IsPrepared failed good device = Called failed device.calls device.calls_after × good
 
--- What the device was asked: nothing before the script was read and found good, and then to be prepared, and nothing else
+-- What the device was asked: nothing before the script was read and found good, and then to be prepared, and nothing
+-- else
 abbrev pub IsAsked : Type 0 → Type 0 → DeviceChange → Status → Type 0
 IsAsked untouched good device statuses.Done = IsPrepared false good device
 IsAsked untouched good device statuses.Usage = untouched
@@ -124,12 +127,14 @@ abbrev pub IsComplete : Option Bool → SourceChange → SinkChange → DeviceCh
 IsComplete wanted source sink device status =
     (bytes : List ℕ) → source.left ≡ Some bytes → fault_of bytes ≡ None
     → (journal : Bool) → wanted ≡ Some journal
-    → ¬ Rose source.faults source.faults_after → ¬ Rose sink.faults sink.faults_after → ¬ Rose device.faults device.faults_after
+    → ¬ Rose source.faults source.faults_after → ¬ Rose sink.faults sink.faults_after
+    → ¬ Rose device.faults device.faults_after
     → (status ≡ statuses.Done) ⊎ (status ≡ statuses.NoMemory)
 
--- How a trace whose words ask so ends, what its device was asked, which is left untouched or not, and that a good script
--- is done
-pub record IsTraced (wanted : Option Bool) (untouched : Type 0) (source : SourceChange) (sink : SinkChange) (device : DeviceChange)
+-- How a trace whose words ask so ends, what its device was asked, which is left untouched or not, and that a good
+-- script is done
+pub record IsTraced (wanted : Option Bool) (untouched : Type 0) (source : SourceChange) (sink : SinkChange)
+    (device : DeviceChange)
     (status : Status) : Type 0 where
   pub ends : Ends wanted source sink device status
   pub asked : IsAsked untouched (HasReading wanted source) device status

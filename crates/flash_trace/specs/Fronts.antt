@@ -12,4 +12,6 @@ pub record GoesOnFrom (front whole : List Entry) : Type 0 where
 
 -- the steps in front make the journal that the whole script goes on from
 abbrev pub EachFrontMakesAFront : Type 0
-EachFrontMakesAFront = (g : Geometry) (steps more : List Step) → GoesOnFrom (play_of g steps).kept.journal (play_of g (steps ++ more)).kept.journal
+EachFrontMakesAFront =
+    (g : Geometry) (steps more : List Step)
+    → GoesOnFrom (play_of g steps).kept.journal (play_of g (steps ++ more)).kept.journal

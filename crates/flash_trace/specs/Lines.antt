@@ -36,7 +36,8 @@ line_words line = spaced_words (without_return line)
 -- a key of a text line: 1 to 250 bytes, each above a space and no 0x7f
 abbrev pub key_of : List ℕ → Option (List ℕ)
 key_of word =
-    if nat_le 1 (length word) && nat_le (length word) 250 && list_all (λ b. nat_lt 32 b && not (nat_eq b 127)) word then Some word else None
+    if nat_le 1 (length word) && nat_le (length word) 250
+    && list_all (λ b. nat_lt 32 b && not (nat_eq b 127)) word then Some word else None
 
 -- a number below a limit
 abbrev pub number_below : ℕ → List ℕ → Option ℕ
@@ -59,7 +60,8 @@ set_or_unknown (Some line) = Set line
 -- the line of `set` after the command word
 abbrev pub set_line : ℕ → List (List ℕ) → Line
 set_line item_max (key ∷ flags ∷ exptime ∷ size ∷ []) =
-    set_or_unknown (option_and_then (λ k. option_and_then (λ f. option_and_then (λ e. option_map (λ n. record { key = k; flags = f; exptime = e; size = n })
+    set_or_unknown (option_and_then (λ k. option_and_then (λ f. option_and_then (λ e.
+    option_map (λ n. record { key = k; flags = f; exptime = e; size = n })
     (number_below (item_max + 1) size)) (exptime_of exptime)) (number_below (2 ^ 32) flags)) (key_of key))
 set_line item_max _ = Unknown
 
@@ -75,7 +77,8 @@ get_line _ = Unknown
 abbrev pub line_of_words : ℕ → List (List ℕ) → Line
 line_of_words item_max [] = Unknown
 line_of_words item_max (command ∷ more) =
-    if bytes_eq command (codes "get") then get_line more else if bytes_eq command (codes "set") then set_line item_max more else Unknown
+    if bytes_eq command (codes "get") then get_line more
+    else if bytes_eq command (codes "set") then set_line item_max more else Unknown
 
 -- what a line asks of a store whose values have at most this many bytes; its line feed is taken off
 abbrev pub line_of : ℕ → List ℕ → Line

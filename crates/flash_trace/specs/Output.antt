@@ -23,7 +23,8 @@ sessions_text number (seat ∷ seats) = session_text number seat ++ sessions_tex
 
 -- the journal after the script's first line, with its line feed
 abbrev pub journal_text : List ℕ → List Entry → List ℕ
-journal_text first_line journal = codes "journal " ++ decimal (length journal) ++ 10 ∷ first_line ++ flat_map entry_line journal
+journal_text first_line journal =
+    codes "journal " ++ decimal (length journal) ++ 10 ∷ first_line ++ flat_map entry_line journal
 
 -- the same where it is wanted
 abbrev pub journal_if : Bool → List ℕ → List Entry → List ℕ
@@ -31,13 +32,15 @@ journal_if wanted first_line journal = if wanted then journal_text first_line jo
 
 -- what a trace of so many steps has printed, what its sessions were answered, and its journal
 abbrev pub play_text : List ℕ → List (Option Seat) → List ℕ → ℕ → List ℕ
-play_text printed seats journal steps = printed ++ sessions_text 1 seats ++ journal ++ codes "end " ++ decimal steps ++ 10 ∷ []
+play_text printed seats journal steps =
+    printed ++ sessions_text 1 seats ++ journal ++ codes "end " ++ decimal steps ++ 10 ∷ []
 
 -- the whole output of a script, with the journal or without
 abbrev pub output : Script → Bool → List ℕ
 output script with_journal =
     let play = play_of script.geometry script.steps in
-    play_text play.printed play.seats (journal_if with_journal script.first_line play.kept.journal) (length script.steps)
+    play_text play.printed play.seats (journal_if with_journal script.first_line play.kept.journal)
+    (length script.steps)
 
 abbrev pub why_text : Why → List ℕ
 why_text BadWord = codes "bad-word"

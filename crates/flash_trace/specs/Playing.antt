@@ -42,7 +42,8 @@ new_seat = record { reader = InLine []; waiting = []; last = 0; replies = []; cl
 
 -- before the first step
 abbrev pub first_play : Play
-first_play = record { kept = record { journal = []; cache = first_cache; desk = record { hot = [] } }; printed = []; seats = replicate 16 None }
+first_play =
+    record { kept = record { journal = []; cache = first_cache; desk = record { hot = [] } }; printed = []; seats = replicate 16 None }
 
 -- the store after a call
 abbrev pub after_call : {A : Type 0} → StoreState → Call A → StoreState
@@ -61,8 +62,12 @@ with_reply seat last text = record seat { last = last; replies = seat.replies ++
 -- one command of a session
 abbrev pub act : Geometry → ℕ → StoreState × Seat → Command → StoreState × Seat
 act g pass state (Get key) =
-    let call = look_call state.0.cache state.0.desk (record { pass = pass; seq = state.1.last + 1 }) key (record { value = true; renew = None }) in
-    (after_call state.0 call, with_reply state.1 (state.1.last + 1) (step_text (Get key) (told.Found (outcome_of call.answer))))
+    let call = look_call state.0.cache state.0.desk (record { pass = pass; seq = state.1.last + 1 }) key
+    (record { value = true; renew = None }) in (
+      after_call state.0 call,
+      with_reply state.1 (state.1.last + 1)
+          (step_text (Get key) (told.Found (outcome_of call.answer))),
+    )
 act g pass state (Store put) =
     let call = store_call g state.0.cache state.0.desk (record { pass = pass; seq = state.1.last + 1 }) put in
     (after_call state.0 call, with_reply state.1 (state.1.last + 1) (step_text (Store put) (told.Stored call.answer)))
@@ -95,7 +100,8 @@ with_line_unless done play word line = if done then play else with_line play wor
 -- the session after it was given the bytes and a line end, where values have at most this size
 abbrev pub seat_with_input : ℕ → Seat → List ℕ → Seat
 seat_with_input item_max seat bytes =
-    let read = read_from item_max seat.reader (bytes ++ 13 ∷ 10 ∷ []) in record seat { reader = read.1; waiting = seat.waiting ++ read.0 }
+    let read = read_from item_max seat.reader (bytes ++ 13 ∷ 10 ∷ []) in
+    record seat { reader = read.1; waiting = seat.waiting ++ read.0 }
 
 abbrev pub seat_after_input : Geometry → Seat → List ℕ → Seat
 seat_after_input g seat bytes = seat_with_input g.item_max seat bytes
@@ -104,7 +110,8 @@ seat_after_input g seat bytes = seat_with_input g.item_max seat bytes
 abbrev pub say : Geometry → Play → ℕ → ℕ → List ℕ → Play
 say g play line session bytes =
     let seat = seat_at play session in
-    if seat.closed then with_line (with_seat play session seat) (codes "closed") line else with_seat play session (seat_after_input g seat bytes)
+    if seat.closed then with_line (with_seat play session seat) (codes "closed") line
+    else with_seat play session (seat_after_input g seat bytes)
 
 -- the session after its turn: it is closed where its reader has met an end
 abbrev pub seat_after_run : Seat → Seat
@@ -113,7 +120,8 @@ seat_after_run seat = record seat { closed = is_at_end seat.reader }
 -- a turn of the session: it does the commands that it has read
 abbrev pub run : Geometry → Play → ℕ → Play
 run g play session =
-    let seat = seat_at play session in let after = act_all g session (play.kept, record seat { waiting = [] }) seat.waiting in
+    let seat = seat_at play session in
+    let after = act_all g session (play.kept, record seat { waiting = [] }) seat.waiting in
     with_seat (record play { kept = after.0 }) session (seat_after_run after.1)
 
 -- a reading of the clock: where the moment doesn't rise, a line is printed

@@ -12,19 +12,22 @@ use Rattle.flash_trace.specs.Steps.{Step, Clock, Say, Run, IsSession, AreSeated}
 abbrev pub printed_line : List ℕ → ℕ → List ℕ
 printed_line word line = word ++ (32 ∷ decimal line ++ 10 ∷ [])
 
--- What a step after these steps prints: a reading of the clock `idle` where it isn't above the readings before, and bytes
--- for a session `closed` where the bytes before its last run end it; a run prints nothing
+-- What a step after these steps prints: a reading of the clock `idle` where it isn't above the readings before, and
+-- bytes for a session `closed` where the bytes before its last run end it; a run prints nothing
 abbrev pub step_prints : Geometry → List Step → ℕ → Step → List ℕ
 step_prints g before line (Clock reading) =
     if nat_lt (moment_after 0 before) (min reading (2 ^ 62)) then [] else printed_line (codes "idle") line
 step_prints g before line (Say session bytes) =
-    if is_at_end (commands_of g.item_max (bytes_before_last_run session before)).1 then printed_line (codes "closed") line else []
+    if is_at_end (commands_of g.item_max (bytes_before_last_run session before)).1
+    then printed_line (codes "closed") line
+    else []
 step_prints g before line (Run session) = []
 
 -- what these steps print, of which the first has this line and the given steps before it
 abbrev pub steps_print : Geometry → List Step → ℕ → List Step → List ℕ
 steps_print g before line [] = []
-steps_print g before line (step ∷ steps) = step_prints g before line step ++ steps_print g (before ++ step ∷ []) (line + 1) steps
+steps_print g before line (step ∷ steps) =
+    step_prints g before line step ++ steps_print g (before ++ step ∷ []) (line + 1) steps
 
 -- whether a step names the session
 abbrev pub names : ℕ → Step → Bool

@@ -26,7 +26,9 @@ stored_line stored.NoNumber = reply_line (codes "SERVER_ERROR numbers used up")
 
 -- the block of a hit
 abbrev pub hit_text : List ℕ → Hit → List ℕ
-hit_text key hit = reply_line (codes "VALUE " ++ key ++ 32 ∷ decimal hit.head.flags ++ 32 ∷ decimal hit.head.size) ++ reply_line hit.value
+hit_text key hit =
+    reply_line (codes "VALUE " ++ key ++ 32 ∷ decimal hit.head.flags ++ 32 ∷ decimal hit.head.size)
+    ++ reply_line hit.value
 
 -- a miss has no block
 abbrev pub found_block : List ℕ → LookAnswer → List ℕ

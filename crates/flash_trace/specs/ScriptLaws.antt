@@ -38,12 +38,16 @@ pub record HasBadLine (lines : Lines) (good : List (List ℕ)) (why : Why) : Typ
 
 -- the first bad line is the fault, with its number: the steps are on the lines from 2 on
 abbrev pub IsFirstBadLine : Type 0
-IsFirstBadLine = (bytes : List ℕ) (good : List (List ℕ)) (why : Why) → length bytes ≤ 16777216 → length good < 1048576 → HasBadLine (lines_of bytes) good why
+IsFirstBadLine =
+    (bytes : List ℕ) (good : List (List ℕ)) (why : Why) → length bytes ≤ 16777216 → length good < 1048576
+    → HasBadLine (lines_of bytes) good why
     → fault_of bytes ≡ Some (record { line = length good + 2; why = why })
 
 -- a first line that is bad is the fault
 abbrev pub IsBadFirstLine : Type 0
-IsBadFirstLine = (bytes first_line : List ℕ) (more : List (List ℕ)) (why : Why) → length bytes ≤ 16777216 → (lines_of bytes).whole ≡ first_line ∷ more → geometry_of first_line ≡ Err why
+IsBadFirstLine =
+    (bytes first_line : List ℕ) (more : List (List ℕ)) (why : Why) → length bytes ≤ 16777216
+    → (lines_of bytes).whole ≡ first_line ∷ more → geometry_of first_line ≡ Err why
     → fault_of bytes ≡ Some (record { line = 1; why = why })
 
 -- lines that are good, and bytes after the last of them that no line feed ends
@@ -58,16 +62,21 @@ pub record HasOpenLine (lines : Lines) (good : List (List ℕ)) : Type 0 where
 
 -- the line that no line feed ends is short, with its number
 abbrev pub IsShortLine : Type 0
-IsShortLine = (bytes : List ℕ) (good : List (List ℕ)) → length bytes ≤ 16777216 → length good < 1048576 → HasOpenLine (lines_of bytes) good
+IsShortLine =
+    (bytes : List ℕ) (good : List (List ℕ)) → length bytes ≤ 16777216 → length good < 1048576
+    → HasOpenLine (lines_of bytes) good
     → fault_of bytes ≡ Some (record { line = length good + 2; why = Short })
 
 -- without a line feed line 1 is short
 abbrev pub IsShortFirstLine : Type 0
-IsShortFirstLine = (bytes : List ℕ) → length bytes ≤ 16777216 → (lines_of bytes).whole ≡ [] → fault_of bytes ≡ Some (record { line = 1; why = Short })
+IsShortFirstLine =
+    (bytes : List ℕ) → length bytes ≤ 16777216 → (lines_of bytes).whole ≡ []
+    → fault_of bytes ≡ Some (record { line = 1; why = Short })
 
 -- too many bytes are before all other faults
 abbrev pub HasTooManyBytes : Type 0
-HasTooManyBytes = (bytes : List ℕ) → 16777216 < length bytes → fault_of bytes ≡ Some (record { line = 0; why = TooLong })
+HasTooManyBytes =
+    (bytes : List ℕ) → 16777216 < length bytes → fault_of bytes ≡ Some (record { line = 0; why = TooLong })
 
 -- the sessions of a script that was read are from 1 to 16
 abbrev pub HasSeats : Type 0

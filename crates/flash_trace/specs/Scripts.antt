@@ -39,7 +39,8 @@ in_first_line b lines = elim lines.whole [
 abbrev pub lines_of : List ℕ → Lines
 lines_of [] = record { whole = []; rest = [] }
 lines_of (b ∷ bytes) =
-    let lines = lines_of bytes in if b == 10 then record { whole = [] ∷ lines.whole; rest = lines.rest } else in_first_line b lines
+    let lines = lines_of bytes in if b == 10 then record { whole = [] ∷ lines.whole; rest = lines.rest }
+    else in_first_line b lines
 
 -- what is after the first space, where there is one
 abbrev pub behind_word : List ℕ → List ℕ
@@ -63,13 +64,15 @@ step_word word =
 abbrev pub step_of_word : StepWord → List (List ℕ) → List ℕ → Result Step Why
 step_of_word begins.Clock (number ∷ []) text = ok_or (option_map Clock (number_of number)) BadNumber
 step_of_word begins.Run (number ∷ []) text = ok_or (option_map Run (session_of number)) BadNumber
-step_of_word begins.Say (number ∷ word ∷ more) text = ok_or (option_map (λ session. Say session text) (session_of number)) BadNumber
+step_of_word begins.Say (number ∷ word ∷ more) text =
+    ok_or (option_map (λ session. Say session text) (session_of number)) BadNumber
 step_of_word _ _ _ = Err BadWord
 
 -- the step of a line of these words, with this text after its second space
 abbrev pub step_of_words : List (List ℕ) → List ℕ → Result Step Why
 step_of_words [] text = Err BadWord
-step_of_words (word ∷ more) text = elim (step_word word) [ None ↦ Err BadWord | Some begin ↦ step_of_word begin more text ]
+step_of_words (word ∷ more) text =
+    elim (step_word word) [ None ↦ Err BadWord | Some begin ↦ step_of_word begin more text ]
 
 -- the step of a line, or why the line is bad
 abbrev pub step_of : List ℕ → Result Step Why
@@ -120,12 +123,15 @@ fault_of bytes = if nat_lt 16777216 (length bytes) then too_long else lines_faul
 -- the steps of lines that were all read
 abbrev pub steps_of : List (List ℕ) → Option (List Step)
 steps_of [] = Some []
-steps_of (line ∷ more) = option_and_then (λ step. option_map (λ steps. step ∷ steps) (steps_of more)) (result_ok (step_of line))
+steps_of (line ∷ more) =
+    option_and_then (λ step. option_map (λ steps. step ∷ steps) (steps_of more)) (result_ok (step_of line))
 
 -- the script of its parts, where they were all read
 abbrev pub script_of_parts : List ℕ → Option Geometry → Option (List Step) → Option Script
 script_of_parts first_line geometry steps =
-    option_and_then (λ g. option_map (λ all. record { geometry = g; first_line = first_line ++ 10 ∷ []; steps = all }) steps) geometry
+    option_and_then
+    (λ g. option_map (λ all. record { geometry = g; first_line = first_line ++ 10 ∷ []; steps = all }) steps)
+    geometry
 
 -- the script of lines that were all read
 abbrev pub script_of_lines : Lines → Option Script

@@ -40,5 +40,6 @@ Reads old bytes new = Took old (read_from old.item_max (reader_of old) bytes) ne
 -- the rest ends as the one that reads them all
 pub record LeavesRest (old : Session) (reader : Reader) (bytes : List ℕ) (new : Session) (rest : List ℕ) : Type 0 where
   pub item_max : new.item_max ≡ old.item_max
-  pub same : behind_these (waiting_of new) (read_from old.item_max (reader_of new) rest) ≡ behind_these (waiting_of old) (read_from old.item_max reader bytes)
+  pub same : behind_these (waiting_of new) (read_from old.item_max (reader_of new) rest)
+      ≡ behind_these (waiting_of old) (read_from old.item_max reader bytes)
   pub shorter : length rest < length bytes

@@ -24,7 +24,8 @@ impl Seat {
     ) -> Result<(), AllocError>
         requires tells { IsTrue (is_some core.old.told) }
         requires new { IsNew (entries_of core.old.told) (record { pass = session.number; seq = self.old.last + 1 }) }
-        ensures done { OnOk result ((kept_of core.new, seat_of self.new) ≡ act_all core.old.geometry session.number (kept_of core.old, seat_of self.old) commands.now) }
+        ensures done { OnOk result ((kept_of core.new, seat_of self.new)
+            ≡ act_all core.old.geometry session.number (kept_of core.old, seat_of self.old) commands.now) }
         ensures tells { OnOk result (IsTrue (is_some core.new.told)) }
         ensures geometry { OnOk result (core.new.geometry ≡ core.old.geometry) }
         ensures session { OnOk result (self.new.session ≡ self.old.session) }
@@ -46,7 +47,8 @@ impl Seat {
     ) -> Result<(), AllocError>
         requires tells { IsTrue (is_some core.old.told) }
         requires new { IsNew (entries_of core.old.told) (record { pass = session.number; seq = self.old.last + 1 }) }
-        ensures done { OnOk result ((kept_of core.new, seat_of self.new) ≡ act core.old.geometry session.number (kept_of core.old, seat_of self.old) command.now) }
+        ensures done { OnOk result ((kept_of core.new, seat_of self.new)
+            ≡ act core.old.geometry session.number (kept_of core.old, seat_of self.old) command.now) }
         ensures tells { OnOk result (IsTrue (is_some core.new.told)) }
         ensures geometry { OnOk result (core.new.geometry ≡ core.old.geometry) }
         ensures session { OnOk result (self.new.session ≡ self.old.session) }

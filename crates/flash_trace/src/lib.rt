@@ -1,4 +1,12 @@
-//! `trace`: runs a written script over a store and writes the sessions' replies and, on request, the journal.
+//! `trace`: runs a written script over a store, and writes the sessions' replies and, on request, the journal.
+//!
+//! `run_trace` is the one call: it reads the script from a source, prepares the device, does each step over a store, and
+//! writes the output to a sink. `specs/Scripts.antt` says what a script is and which line of it is the first that is bad,
+//! `Playing.antt` what its steps do, `Output.antt` what is written, `Ends.antt` how a trace ends.
+//!
+//! It is proved that the output is that of the script; that the script's journal is a run of the one-thread cache and each
+//! session is answered by it, in order, none left out (`Answers.antt`); what each step prints and which sessions are made
+//! (`Printing.antt`); and the cause of every other end. The laws over all scripts are functions with no body in `laws.rt`.
 #![tactic(auto)]
 
 mod act;

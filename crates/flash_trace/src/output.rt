@@ -22,7 +22,9 @@ pub fn play_output(
     journal: &[Entry],
     steps: usize,
 ) -> Result<Vec<u8>, AllocError>
-    ensures { IfOk result (λ out. out.items ≡ play_text play.now.printed.items (seats_of play.now) (journal_if with_journal first_line.now journal.now) steps) }
+    ensures { IfOk result (λ out. out.items
+        ≡ play_text play.now.printed.items (seats_of play.now)
+        (journal_if with_journal first_line.now journal.now) steps) }
 {
     let mut out = play.printed.to_vec(alloc)?;
     push_sessions(&mut out, &play.seats)?;

@@ -30,7 +30,9 @@ impl Seat {
     // nothing.
     fn take_input(&mut self, input: &[u8]) -> Result<bool, AllocError>
         ensures taken { IfOk result (λ taken. taken ≡ not self.old.closed) }
-        ensures heard { IfOk result (λ taken. seat_of self.new ≡ (if taken then seat_with_input self.old.session.item_max (seat_of self.old) input.now else seat_of self.old)) }
+        ensures heard { IfOk result (λ taken. seat_of self.new
+            ≡ (if taken then seat_with_input self.old.session.item_max (seat_of self.old) input.now
+            else seat_of self.old)) }
         ensures size { OnOk result (self.new.session.item_max ≡ self.old.session.item_max) }
     {
         if self.closed {
@@ -86,7 +88,8 @@ impl Play {
     ) -> Result<(), AllocError>
         requires going { TraceGoesOn core.old self.old }
         requires within { IsWithin (length script.now) step }
-        ensures done { OnOk result (state_of core.new self.new ≡ play_step core.old.geometry (state_of core.old self.old) line (step_meant script.now step)) }
+        ensures done { OnOk result (state_of core.new self.new
+            ≡ play_step core.old.geometry (state_of core.old self.old) line (step_meant script.now step)) }
         ensures seats { OnOk result (AreSeats core.old.geometry.item_max self.new.seats.items) }
         ensures tells { OnOk result (IsTrue (is_some core.new.told)) }
         ensures geometry { OnOk result (core.new.geometry ≡ core.old.geometry) }
@@ -128,7 +131,8 @@ impl Play {
         line: u64,
     ) -> Result<(), AllocError>
         requires seats { AreSeats geometry.now.item_max self.old.seats.items }
-        ensures done { OnOk result ((kept : StoreState) → play_state kept self.new ≡ say geometry.now (play_state kept self.old) line session.number input.now) }
+        ensures done { OnOk result ((kept : StoreState)
+            → play_state kept self.new ≡ say geometry.now (play_state kept self.old) line session.number input.now) }
         ensures seats { OnOk result (AreSeats geometry.now.item_max self.new.seats.items) }
     {
         let mut seat = self.take_seat(alloc, geometry.item_max, session);
@@ -145,7 +149,8 @@ impl Play {
         session: SessionNumber,
     ) -> Result<(), AllocError>
         requires going { TraceGoesOn core.old self.old }
-        ensures done { OnOk result (state_of core.new self.new ≡ run core.old.geometry (state_of core.old self.old) session.number) }
+        ensures done { OnOk result (state_of core.new self.new
+            ≡ run core.old.geometry (state_of core.old self.old) session.number) }
         ensures seats { OnOk result (AreSeats core.old.geometry.item_max self.new.seats.items) }
         ensures tells { OnOk result (IsTrue (is_some core.new.told)) }
         ensures geometry { OnOk result (core.new.geometry ≡ core.old.geometry) }
@@ -181,7 +186,8 @@ impl Play {
 
     // Prints the word and the line's number where it wasn't done.
     fn print_unless(&mut self, done: bool, word: &[u8], line: u64) -> Result<(), AllocError>
-        ensures printed { OnOk result (self.new.printed.items ≡ (if done then self.old.printed.items else self.old.printed.items ++ word.now ++ 32 ∷ decimal line ++ 10 ∷ [])) }
+        ensures printed { OnOk result (self.new.printed.items ≡ (if done then self.old.printed.items
+            else self.old.printed.items ++ word.now ++ 32 ∷ decimal line ++ 10 ∷ [])) }
         ensures seats { OnOk result (self.new.seats.items ≡ self.old.seats.items) }
     {
         if done {

@@ -101,7 +101,8 @@ fn read_piece<S: Source>(
     bytes: &mut Vec<u8>,
 ) -> Result<bool, ReadError>
     requires { 0 < length piece.old }
-    ensures taken { OnOk result ((first : Option (List ℕ)) → first ≡ with_front bytes.old.items (S.left source.old) → first ≡ with_front bytes.new.items (S.left source.new)) }
+    ensures taken { OnOk result ((first : Option (List ℕ)) → first ≡ with_front bytes.old.items (S.left source.old)
+        → first ≡ with_front bytes.new.items (S.left source.new)) }
     ensures more { IfOk result (λ more. more ≡ true → length bytes.old.items < length bytes.new.items) }
     ensures bound { OnOk result (length bytes.new.items ≤ length bytes.old.items + length piece.old) }
     ensures end { IfOk result (λ more. more ≡ false → IsAtEnd (S.left source.new)) }
@@ -225,7 +226,8 @@ fn play_steps(
 ) -> Result<(), AllocError>
     requires going { TraceGoesOn core.old play.old }
     requires within { AreWithin (length bytes.now) steps.now }
-    ensures done { OnOk result (state_of core.new play.new ≡ play_from core.old.geometry (state_of core.old play.old) 2 (map (step_meant bytes.now) steps.now)) }
+    ensures done { OnOk result (state_of core.new play.new
+        ≡ play_from core.old.geometry (state_of core.old play.old) 2 (map (step_meant bytes.now) steps.now)) }
     ensures tells { OnOk result (IsTrue (is_some core.new.told)) }
 {
     let mut line = 1u64;

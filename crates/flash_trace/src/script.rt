@@ -104,7 +104,8 @@ fn read_steps(alloc: Global, bytes: &[u8], steps_offset: usize) -> Result<Vec<St
     requires within { steps_offset ≤ length bytes.now }
     requires small { length bytes.now ≤ 16777216 }
     ensures good { IfOk result (λ _. fault_from 2 (drop steps_offset bytes.now) ≡ None) }
-    ensures read { IfOk result (λ steps. steps_of (lines_of (drop steps_offset bytes.now)).whole ≡ Some (map (step_meant bytes.now) steps.items)) }
+    ensures read { IfOk result (λ steps. steps_of (lines_of (drop steps_offset bytes.now)).whole
+        ≡ Some (map (step_meant bytes.now) steps.items)) }
     ensures within { IfOk result (λ steps. AreWithin (length bytes.now) steps.items) }
     ensures bad { IfErr result (IsFault (fault_from 2 (drop steps_offset bytes.now))) }
 {
@@ -130,8 +131,10 @@ fn read_steps(alloc: Global, bytes: &[u8], steps_offset: usize) -> Result<Vec<St
 fn read_step_line(bytes: &[u8], start: usize) -> Result<(Step, usize), Why>
     requires within { start ≤ length bytes.now }
     requires small { length bytes.now ≤ 16777216 }
-    ensures cut { IfOk result (λ read. cut_at 10 (drop start bytes.now) ≡ Some (slice_range bytes.now start (read.1 - 1), drop read.1 bytes.now)) }
-    ensures read { IfOk result (λ read. step_of (slice_range bytes.now start (read.1 - 1)) ≡ Ok (step_meant bytes.now read.0)) }
+    ensures cut { IfOk result (λ read. cut_at 10 (drop start bytes.now)
+        ≡ Some (slice_range bytes.now start (read.1 - 1), drop read.1 bytes.now)) }
+    ensures read { IfOk result (λ read. step_of (slice_range bytes.now start (read.1 - 1))
+        ≡ Ok (step_meant bytes.now read.0)) }
     ensures bad { IfErr result (λ why. first_fault (cut_at 10 (drop start bytes.now)) ≡ Some why) }
     ensures within { IfOk result (λ read. IsWithin (length bytes.now) read.0) }
     ensures next { IfOk result (λ read. (start < read.1) × (read.1 ≤ length bytes.now)) }

@@ -161,7 +161,8 @@ impl Session {
     // The bytes that the block lacks.
     fn feed_block<'a>(&mut self, block: OpenBlock, bytes: &'a [u8]) -> Result<&'a [u8], AllocError>
         requires { 0 < length bytes.now }
-        ensures { IfOk result (λ rest. LeavesRest self.old (InBlock block.line block.bytes.items) bytes.now self.new rest.now) }
+        ensures { IfOk result (λ rest. LeavesRest self.old
+            (InBlock block.line block.bytes.items) bytes.now self.new rest.now) }
     {
         let OpenBlock {
             line,
@@ -188,7 +189,8 @@ impl Session {
         bytes: &'a [u8],
     ) -> Result<&'a [u8], AllocError>
         requires { 0 < length bytes.now }
-        ensures { IfOk result (λ rest. LeavesRest self.old (Behind line block.items (option_to_list first)) bytes.now self.new rest.now) }
+        ensures { IfOk result (λ rest. LeavesRest self.old
+            (Behind line block.items (option_to_list first)) bytes.now self.new rest.now) }
     {
         match first {
             None => self.reading = Reading::Behind(line, block, Some(bytes[0])),
@@ -280,7 +282,8 @@ fn cut_at_feed(bytes: &[u8]) -> (&[u8], Option<&[u8]>)
 
 // How many bytes are skipped with these, where they are fewer than `LINE_LIMIT`, which is 2^16.
 fn skipped_with(skipped: u16, bytes: &[u8]) -> Option<u16>
-    ensures { result ≡ (if nat_lt (skipped + length bytes.now) LINE_LIMIT then Some (skipped + length bytes.now) else None) }
+    ensures { result ≡ (if nat_lt (skipped + length bytes.now) LINE_LIMIT then Some (skipped + length bytes.now)
+        else None) }
 {
     u16::try_from(bytes.len().saturating_add(usize::from(skipped))).ok()
 }

@@ -12,8 +12,10 @@ use Rattle.flash_turn.specs.declared.view.View.{View}
 use Rattle.flash_turn.specs.Rule.{LockRule}
 use Rattle.flash_turn.specs.Passes.{view_of, FitsPass}
 
--- the lock's last moment, in which the pass's seat has the pass's view, the word of the tickets is `tickets` and that of the served ones `served`
-pub record IsLast {T E O F : Type 0} (story : T → Option (List E)) (own : T → List (ℕ × O)) (fixed : T → F) (A : Type 0) (pass : Pass T)
+-- the lock's last moment, in which the pass's seat has the pass's view, the word of the tickets is `tickets` and that
+-- of the served ones `served`
+pub record IsLast {T E O F : Type 0} (story : T → Option (List E)) (own : T → List (ℕ × O)) (fixed : T
+    → F) (A : Type 0) (pass : Pass T)
     (tickets served : ℕ) : Type 0 where
   pub moment : State (Option (Box T A)) (View T)
   pub kept : LockRule story own fixed moment
@@ -21,9 +23,10 @@ pub record IsLast {T E O F : Type 0} (story : T → Option (List E)) (own : T �
   pub tickets_word : slice_index moment.words 0 ≡ tickets
   pub served_word : slice_index moment.words 1 ≡ served
 
--- what is left of the lock's table at its end: its last state meets the rule, has the pass's view in the pass's seat, and
--- its words of the tickets and of the served ones differ
-pub record IsOut {T E O F : Type 0} (story : T → Option (List E)) (own : T → List (ℕ × O)) (fixed : T → F) (A : Type 0) (pass : Pass T)
+-- what is left of the lock's table at its end: its last state meets the rule, has the pass's view in the pass's seat,
+-- and its words of the tickets and of the served ones differ
+pub record IsOut {T E O F : Type 0} (story : T → Option (List E)) (own : T → List (ℕ × O)) (fixed : T
+    → F) (A : Type 0) (pass : Pass T)
     (words : List ℕ) (slots : List (Option (Box T A))) : Type 0 where
   pub last : Final (Seen (LockRule story own fixed) pass.seat.id (view_of pass)) words slots
   pub tickets : ℕ
@@ -34,7 +37,8 @@ pub record IsOut {T E O F : Type 0} (story : T → Option (List E)) (own : T →
 
 -- The value, as the pass would find it, where both words are one. `Out` where the words of the table that was closed
 -- differ, as then a pass holds a ticket
-abbrev pub Closes : {T E O F : Type 0} → (T → Option (List E)) → (T → List (ℕ × O)) → (T → F) → Turn T → Pass T → Closing T → Type 0
+abbrev pub Closes : {T E O F : Type 0} → (T → Option (List E)) → (T → List (ℕ × O)) → (T → F) → Turn T → Pass T
+    → Closing T → Type 0
 Closes story own fixed turn pass (Value value) =
     FitsPass story own fixed turn pass value × ((tickets : ℕ) × IsLast story own fixed Global pass tickets tickets)
 Closes story own fixed turn pass (Out at_end) =

@@ -10,12 +10,14 @@ use Rattle.flash_turn.specs.Counts.{total, claims, pendings, overs}
 abbrev pub limit : ℕ
 limit = 4294967295
 
--- a number that was drawn is below the next one, and one at the limit or above it is drawn only where the next one is there
+-- a number that was drawn is below the next one, and one at the limit or above it is drawn only where the next one is
+-- there
 pub record IsPast (next n : ℕ) : Type 0 where
   pub below : n < limit → n < next
   pub reached : limit ≤ n → limit ≤ next
 
--- `next` is the number that is drawn next. It goes past the limit only for the passes that drew too far and have still to put their number back
+-- `next` is the number that is drawn next. It goes past the limit only for the passes that drew too far and have
+-- still to put their number back
 pub record Numbered {T : Type 0} (next : ℕ) (views : List (View T)) : Type 0 where
   pub distinct : (x : ℕ) → total (claims x) views ≤ 1
   pub drawn : (x : ℕ) → 0 < total (claims x) views → (0 < x) × (x < next) × (x < limit)

@@ -58,7 +58,8 @@ module _ {T : Type 0} where
 
   -- what the pass, whose number is above 0, finds in its turn: a story that begins with all that it had seen, its own
   -- things as it left them, and the fixed part of the lock
-  pub record FitsPass {E O F : Type 0} (story : T → Option (List E)) (own : T → List (ℕ × O)) (fixed : T → F) (turn : Turn T) (pass : Pass T) (value : T) : Type 0 where
+  pub record FitsPass {E O F : Type 0} (story : T → Option (List E)) (own : T → List (ℕ × O)) (fixed : T
+      → F) (turn : Turn T) (pass : Pass T) (value : T) : Type 0 where
     pub begins : Begins (seen story pass) (story value)
     pub numbered : 0 < pass.number
     pub as_left : own_of pass.number (own value) ≡ left_own own pass

@@ -15,8 +15,8 @@ things_left own n None = []
 things_left own n (Some left) = own_of n (own left)
 
 module _ {T E O F : Type 0} (story : T → Option (List E)) (own : T → List (ℕ × O)) (fixed : T → F) where
-  -- what a pass knows of the value, which is at home or out: its story begins with what was seen, its fixed part is known,
-  -- and the things of the pass are as it left them
+  -- what a pass knows of the value, which is at home or out: its story begins with what was seen, its fixed part is
+  -- known, and the things of the pass are as it left them
   pub record Knows (served : ℕ) (value : T) (v : View T) : Type 0 where
     pub seen : (x : T) → v.seen ≡ Some x → Begins (story x) (story value) × (fixed value ≡ fixed x)
     pub met : (x : T) → v.met ≡ Some x → Begins (story x) (story value) × (fixed value ≡ fixed x)
@@ -24,7 +24,8 @@ module _ {T E O F : Type 0} (story : T → Option (List E)) (own : T → List (�
     pub out : v.has ≡ true → (v.ticket ≡ Some served) × (v.took ≡ Some value)
 
   -- Word 0 counts the tickets drawn, word 1 those served, and word 2 is the next number. There is one value: at home
-  -- where no pass has it, and else as the pass took it whose ticket is served. A number that was never given owns nothing
+  -- where no pass has it, and else as the pass took it whose ticket is served. A number that was never given owns
+  -- nothing
   pub record LockRule {A : Type 0} (s : State (Option (Box T A)) (View T)) : Type 0 where
     pub drawn : ℕ
     pub served : ℕ

@@ -23,7 +23,8 @@ pub record HasDrawn {T : Type 0} (old new : Pass T) (n : ℕ) : Type 0 where
 abbrev pub known_numbers : {T : Type 0} → Pass T → List ℕ
 known_numbers pass = (view_of pass).numbers ++ (view_of pass).draws
 
-module _ {T E O X F : Type 0} (story : T → Option (List E)) (own : T → List (ℕ × O)) (face : T → X) (fixed : T → F) where
+module _ {T E O X F : Type 0} (story : T → Option (List E)) (own : T → List (ℕ × O)) (face : T → X) (fixed : T
+    → F) where
   -- A pass of the lock that has seen what this one saw, and has taken and left nothing. Its number is below the limit
   -- and above every number that the other pass knows to be given
   pub record IsSplitOff (turn : Turn T) (old new : Pass T) : Type 0 where

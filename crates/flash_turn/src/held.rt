@@ -25,12 +25,14 @@ impl<'a, T: Shared> HeldIn<'a, T, Box<T>> {
     pub fn leave(self)
         requires held { IsHeld T.fixed self }
         requires story { Begins (T.story (taken_of self)) (T.story (value_of self)) }
-        requires own { without (number_of (pass_of self)) (T.own (value_of self)) ≡ without (number_of (pass_of self)) (T.own (taken_of self)) }
+        requires own { without (number_of (pass_of self)) (T.own (value_of self))
+            ≡ without (number_of (pass_of self)) (T.own (taken_of self)) }
         requires fixed { T.fixed (value_of self) ≡ T.fixed (taken_of self) }
         ensures pass { IsPassOf T.fixed (turn_of self.entry) self.exit.0.now }
         ensures number { number_of self.exit.0.now ≡ number_of (pass_of self.entry) }
         ensures seen { seen T.story self.exit.0.now ≡ T.story (value_of self.entry) }
-        ensures own { left_own T.own self.exit.0.now ≡ own_of (number_of (pass_of self.entry)) (T.own (value_of self.entry)) }
+        ensures own { left_own T.own self.exit.0.now
+            ≡ own_of (number_of (pass_of self.entry)) (T.own (value_of self.entry)) }
         ensures took_story { took_story T.story self.exit.0.now ≡ T.story (taken_of self.entry) }
         ensures took_face { took_face T.face self.exit.0.now ≡ Some (T.face (taken_of self.entry)) }
         ensures left_face { left_face T.face self.exit.0.now ≡ Some (T.face (value_of self.entry)) }

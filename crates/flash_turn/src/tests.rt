@@ -33,7 +33,8 @@ impl Shared for Tally {
 
 impl Tally {
     fn add(&mut self, number: u32, counter: u64) -> Result<(), AllocError>
-        ensures { (self.new.pairs.items ≡ self.old.pairs.items) ⊎ (self.new.pairs.items ≡ self.old.pairs.items ++ (number, counter) ∷ []) }
+        ensures { (self.new.pairs.items ≡ self.old.pairs.items)
+            ⊎ (self.new.pairs.items ≡ self.old.pairs.items ++ (number, counter) ∷ []) }
     {
         self.pairs.push((number, counter))?;
         Ok(())
@@ -97,7 +98,8 @@ fn add_by_two<R: Threads + Wait + Sync>(
 ) -> (Pass<Tally>, Pass<Tally>)
     requires one { IsPassOf {F = Unit {0}} (λ _. tt) turn.now one }
     requires other { IsPassOf {F = Unit {0}} (λ _. tt) turn.now other }
-    ensures { IsPassOf {F = Unit {0}} (λ _. tt) turn.now result.0 × IsPassOf {F = Unit {0}} (λ _. tt) turn.now result.1 }
+    ensures { IsPassOf {F = Unit {0}} (λ _. tt) turn.now result.0
+        × IsPassOf {F = Unit {0}} (λ _. tt) turn.now result.1 }
 {
     join(
         rt,

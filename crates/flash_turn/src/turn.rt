@@ -27,7 +27,9 @@ impl<T: Shared> Turn<T> {
     /// has to own nothing for any number. Where there is no memory, the value comes back.
     pub fn new(alloc: Global, value: T) -> Result<(Turn<T>, Pass<T>), T>
         requires { T.own value ≡ [] }
-        ensures made { IfOk result (λ made. IsPassOf T.fixed made.0 made.1 × (number_of made.1 ≡ 1) × (seen T.story made.1 ≡ T.story value) × (left_own T.own made.1 ≡ []) × (took_face T.face made.1 ≡ None) × (left_face T.face made.1 ≡ None) × (fixed_of T.fixed made.0 ≡ T.fixed value)) }
+        ensures made { IfOk result (λ made. IsPassOf T.fixed made.0 made.1 × (number_of made.1 ≡ 1)
+            × (seen T.story made.1 ≡ T.story value) × (left_own T.own made.1 ≡ []) × (took_face T.face made.1 ≡ None)
+            × (left_face T.face made.1 ≡ None) × (fixed_of T.fixed made.0 ≡ T.fixed value)) }
         ensures refused { IfErr result (λ back. back ≡ value) }
     {
         let start = Snapshot::of(&value);

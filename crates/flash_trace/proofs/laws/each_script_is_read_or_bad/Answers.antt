@@ -1,4 +1,4 @@
-use Rattle.flash_trace.proofs.ScriptReadings.{read_or_bad}
+use Rattle.flash_trace.proofs.Scripts.Readings.{read_or_bad}
 use Rattle.flash_trace.proofs.laws.each_script_is_read_or_bad.Goals as goal
 
 pub returns : goal.returns

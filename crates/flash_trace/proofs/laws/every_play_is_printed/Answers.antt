@@ -1,4 +1,4 @@
-use Rattle.flash_trace.proofs.Printed.{every_play_prints}
+use Rattle.flash_trace.proofs.Playing.Printed.{every_play_prints}
 use Rattle.flash_trace.proofs.laws.every_play_is_printed.Goals as goal
 
 pub returns : goal.returns

@@ -1,4 +1,4 @@
-use Rattle.flash_trace.proofs.Right.{every_play}
+use Rattle.flash_trace.proofs.Answering.Right.{every_play}
 use Rattle.flash_trace.proofs.laws.every_play_is_right.Goals as goal
 
 pub returns : goal.returns

@@ -1,5 +1,5 @@
-use Rattle.flash_trace.proofs.Right.{every_play}
-use Rattle.flash_trace.proofs.ScriptReadings.{has_seats}
+use Rattle.flash_trace.proofs.Answering.Right.{every_play}
+use Rattle.flash_trace.proofs.Scripts.Readings.{has_seats}
 use Rattle.flash_trace.proofs.laws.every_trace_is_right.Goals as goal
 
 pub returns : goal.returns

@@ -1,5 +1,5 @@
-use Rattle.flash_trace.proofs.Ending.{long_fault}
-use Rattle.flash_trace.proofs.ScriptByLines.{bad_first_line, first_bad, short_first_line, short_line}
+use Rattle.flash_trace.proofs.Writing.Ending.{long_fault}
+use Rattle.flash_trace.proofs.Scripts.ByLines.{bad_first_line, first_bad, short_first_line, short_line}
 use Rattle.flash_trace.proofs.laws.the_first_bad_line_is_the_fault.Goals as goal
 
 pub returns-clause-step : goal.returns-clause-step

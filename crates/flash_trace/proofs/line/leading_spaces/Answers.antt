@@ -3,7 +3,7 @@ use Rattle.std.specs.Option.{unwrap_or}
 use Rattle.std.specs.List.{position}
 use Rattle.std.proofs.lemmas.Iterator.{YieldsList-from_slice}
 use Rattle.std.proofs.lemmas.Iterator.Search.{position_from_yields_List}
-use Rattle.flash_trace.proofs.Spacing.{place_or_end}
+use Rattle.flash_trace.proofs.Sessions.SpacedWords.{place_or_end}
 use Rattle.flash_trace.proofs.line.leading_spaces.Goals as goal
 
 pub returns-clause-spaces : goal.returns-clause-spaces

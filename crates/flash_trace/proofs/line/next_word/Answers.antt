@@ -3,7 +3,7 @@ use Rattle.std.proofs.lemmas.Bool.Decides.{nat_tests}
 use Rattle.std.proofs.lemmas.List.{take_all}
 use Rattle.std.specs.Option.{option_map, unwrap_or}
 use Rattle.flash_trace.specs.Lines.{spaced_words}
-use Rattle.flash_trace.proofs.Spacing.{spaces, behind_spaces, begins_a_word, next_word, BeginsAWord}
+use Rattle.flash_trace.proofs.Sessions.SpacedWords.{spaces, behind_spaces, begins_a_word, next_word, BeginsAWord}
 use Rattle.flash_trace.proofs.line.next_word.Goals as goal
 
 abbrev cut_front : List ℕ → ℕ → List ℕ

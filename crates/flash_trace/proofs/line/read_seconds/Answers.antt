@@ -4,7 +4,7 @@ use Rattle.std.specs.Result.{result_ok}
 use Rattle.std.proofs.lemmas.Result.{Ok-from_Ok_iff}
 use Rattle.std.proofs.lemmas.Bool.Decides.{nat_tests}
 use Rattle.flash_names.specs.Numbers.{number_of}
-use Rattle.flash_trace.proofs.Seconds.{number_below}
+use Rattle.flash_trace.proofs.Sessions.Seconds.{number_below}
 use Rattle.flash_trace.proofs.line.read_seconds.Goals as goal
 
 pub returns : goal.returns

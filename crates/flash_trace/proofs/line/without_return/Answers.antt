@@ -1,7 +1,7 @@
 use Rattle.std.proofs.Common.{◌≡◌, ◌≢◌, ℕ, ◌++◌, List, [], ◌∷◌, MatchOption, Bor, ◌∙◌, ap, subst, rules}
 use Rattle.std.proofs.lemmas.Slice.Eq.{strip_suffix_is}
 use Rattle.std.proofs.lemmas.Bool.Decides.{Decides-eqb}
-use Rattle.flash_trace.proofs.Returned.{stripped}
+use Rattle.flash_trace.proofs.Sessions.CarriageReturns.{stripped}
 use Rattle.flash_trace.proofs.line.without_return.Goals as goal
 
 pub returns : goal.returns

@@ -6,7 +6,7 @@ use Rattle.flash_trace.specs.declared.step.Step.{Step}
 use Rattle.flash_trace.specs.Playing.{Play, play_from, play_of}
 use Rattle.flash_trace.specs.CodeScripts.{script_meant, step_meant}
 use Rattle.flash_trace.specs.Seats.{state_of}
-use Rattle.flash_trace.proofs.Playback.{first_state, output_is, if_ok, told_entries}
+use Rattle.flash_trace.proofs.Playing.Playback.{first_state, output_is, if_ok, told_entries}
 use Rattle.flash_trace.proofs.run.play_script.Goals as goal
 
 pub returns : goal.returns

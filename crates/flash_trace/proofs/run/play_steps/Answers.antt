@@ -2,8 +2,8 @@ use Rattle.std.proofs.Common.{◌≡◌, ◌+◌, List, ◌∷◌, sym, ◌∙�
 use Rattle.flash_names.specs.declared.geometry.Geometry.{Geometry}
 use Rattle.flash_trace.specs.declared.step.Step.{Step}
 use Rattle.flash_trace.specs.Playing.{Play, play_from}
-use Rattle.flash_trace.proofs.Acting.{front_item}
-use Rattle.flash_trace.proofs.Going.{trace_goes_on}
+use Rattle.flash_trace.proofs.Playing.Acting.{front_item}
+use Rattle.flash_trace.proofs.Playing.StepGoesOn.{trace_goes_on}
 use Rattle.flash_trace.specs.Seats.{AreSeats, state_of}
 use Rattle.flash_trace.specs.CodeScripts.{AreWithin, step_meant}
 use Rattle.flash_trace.proofs.run.play_steps.Goals as goal

@@ -1,6 +1,6 @@
 use Rattle.std.proofs.Common.{◌≡◌, sym, ◌∙◌}
 use Rattle.flash_trace.specs.CommandLine.{journal_wanted}
-use Rattle.flash_trace.proofs.Ending.{is_traced, read_bytes}
+use Rattle.flash_trace.proofs.Writing.Ending.{is_traced, read_bytes}
 use Rattle.flash_trace.proofs.run.run_trace.Goals as goal
 
 pub returns-in-Ok-clause-traced : goal.returns-in-Ok-clause-traced

@@ -1,7 +1,7 @@
 use Rattle.std.proofs.Common.{◌≡◌, ◌≤◌, ℕ, List, sym, ◌∙◌, ap, subst, arith, length, length-drop, take, drop}
 use Rattle.std.proofs.lemmas.List.{take-append-drop}
 use Rattle.flash_names.specs.Told.{with_more}
-use Rattle.flash_trace.proofs.Streams.{written_on, take_on, slice_from}
+use Rattle.flash_trace.proofs.Writing.Streams.{written_on, take_on, slice_from}
 use Rattle.flash_trace.proofs.run.write_all.Goals as goal
 
 pub returns-in-Err-clause-begun : goal.returns-in-Err-clause-begun

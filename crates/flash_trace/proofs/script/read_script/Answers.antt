@@ -4,8 +4,8 @@ use Rattle.flash_trace.specs.declared.fault.Why.{Why}
 use Rattle.flash_trace.specs.declared.fault.ScriptFault.{ScriptFault}
 use Rattle.flash_trace.specs.CodeScripts.{step_meant, IsFault}
 use Rattle.flash_trace.specs.Scripts.{fault_of}
-use Rattle.flash_trace.proofs.ScriptGeometryLine.{fault_no_line, fault_first_line, fault_behind, script_is}
-use Rattle.flash_trace.proofs.ScriptReadings.{has_seats}
+use Rattle.flash_trace.proofs.Scripts.FirstLine.{fault_no_line, fault_first_line, fault_behind, script_is}
+use Rattle.flash_trace.proofs.Scripts.Readings.{has_seats}
 use Rattle.flash_trace.proofs.script.read_script.Goals as goal
 
 pub returns-in_default-clause-bad : goal.returns-in_default-clause-bad

@@ -3,8 +3,8 @@ use Rattle.std.specs.Option.{ok_or}
 use Rattle.flash_trace.specs.declared.fault.Why.TheVariants.{BadNumber}
 use Rattle.flash_trace.specs.declared.step.SessionNumber.{SessionNumber}
 use Rattle.flash_trace.specs.Steps.{Say}
-use Rattle.flash_trace.proofs.ScriptWords.{end_length, end_between}
-use Rattle.flash_trace.proofs.StepWords.{ends_line, say_is, clock_is, run_is}
+use Rattle.flash_trace.proofs.Scripts.Words.{end_length, end_between}
+use Rattle.flash_trace.proofs.Scripts.StepWords.{ends_line, say_is, clock_is, run_is}
 use Rattle.flash_trace.proofs.script.read_step.Goals as goal
 
 -- a reading of the clock with a word too many

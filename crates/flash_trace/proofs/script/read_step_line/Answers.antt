@@ -2,7 +2,7 @@ use Rattle.std.proofs.Common.{ap, ◌∙◌}
 use Rattle.std.proofs.lemmas.List.{take_rest}
 use Rattle.std.proofs.lemmas.Result.{err_from_is_err_and}
 use Rattle.flash_names.specs.Cut.{cut_at}
-use Rattle.flash_trace.proofs.ScriptLines.{cut_is, bad_line}
+use Rattle.flash_trace.proofs.Scripts.Lines.{cut_is, bad_line}
 use Rattle.flash_trace.proofs.script.read_step_line.Goals as goal
 
 pub returns-in_err-step-clause-bad : goal.returns-in_err-step-clause-bad

@@ -1,8 +1,8 @@
 use Rattle.std.proofs.Common.{◌+◌, drop, length-drop, Some, vec_len, sym, ◌∙◌, ap, subst, arith}
 use Rattle.flash_trace.specs.CodeScripts.{IsFault}
 use Rattle.flash_trace.specs.Scripts.{fault_from}
-use Rattle.flash_trace.proofs.ScriptLines.{fault_full, fault_bad}
-use Rattle.flash_trace.proofs.ScriptTurns.{within_more, read_more, faults_more}
+use Rattle.flash_trace.proofs.Scripts.Lines.{fault_full, fault_bad}
+use Rattle.flash_trace.proofs.Scripts.LineLoop.{within_more, read_more, faults_more}
 use Rattle.flash_trace.proofs.script.read_steps.Goals as goal
 
 pub returns-then-len-ge-MAX_STEPS-clause-bad : goal.returns-then-len-ge-MAX_STEPS-clause-bad

@@ -1,5 +1,5 @@
 use Rattle.std.proofs.Common.{sym}
-use Rattle.flash_trace.proofs.Feeds.{cut_nowhere, cut_there}
+use Rattle.flash_trace.proofs.Sessions.CutBytes.{cut_nowhere, cut_there}
 use Rattle.flash_trace.proofs.session.cut_at_feed.Goals as goal
 
 pub returns-in-None-clause-none : goal.returns-in-None-clause-none

@@ -4,7 +4,7 @@ use Rattle.flash_machine.specs.Legal.{IsNew}
 use Rattle.flash_trace.specs.Playing.{Seat, StoreState}
 use Rattle.flash_trace.specs.Seats.{entries_of, kept_of, seat_of, state_of}
 use Rattle.flash_trace.specs.Sessions.{reader_of, waiting_of}
-use Rattle.flash_trace.proofs.Turns.{seats_put, ran, played_by, seat_by}
+use Rattle.flash_trace.proofs.Playing.SeatLists.{seats_put, ran, played_by, seat_by}
 use Rattle.flash_trace.proofs.play.Play.run.Goals as goal
 
 pub do_all-requires-clause-new : goal.do_all-requires-clause-new

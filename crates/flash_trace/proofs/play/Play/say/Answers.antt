@@ -3,8 +3,8 @@ use Rattle.std.specs.Option.{option_map}
 use Rattle.std.specs.Prelude.{codes, decimal}
 use Rattle.flash_trace.specs.Playing.{seat_with_input}
 use Rattle.flash_trace.specs.Seats.{seat_of, play_state}
-use Rattle.flash_trace.proofs.Going.{on_ok, both_ok}
-use Rattle.flash_trace.proofs.Turns.{seats_put, played_by, said_by, printed_if}
+use Rattle.flash_trace.proofs.Playing.StepGoesOn.{on_ok, both_ok}
+use Rattle.flash_trace.proofs.Playing.SeatLists.{seats_put, played_by, said_by, printed_if}
 use Rattle.flash_trace.proofs.play.Play.say.Goals as goal
 
 pub returns-clause-done : goal.returns-clause-done

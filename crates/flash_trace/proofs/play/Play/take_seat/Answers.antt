@@ -1,5 +1,5 @@
 use Rattle.std.proofs.Common.{◌≡◌, get_or, sym, ◌∙◌, ap}
-use Rattle.flash_trace.proofs.Turns.{seat_at_place}
+use Rattle.flash_trace.proofs.Playing.SeatLists.{seat_at_place}
 use Rattle.flash_trace.proofs.play.Play.take_seat.Goals as goal
 
 pub returns-clause-seat : goal.returns-clause-seat

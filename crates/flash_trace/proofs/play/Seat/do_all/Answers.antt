@@ -1,6 +1,6 @@
 use Rattle.std.proofs.Common.{◌≡◌, ◌+◌, ◌∷◌, ◌∙◌, ap, drop, arith}
 use Rattle.flash_names.specs.declared.geometry.Geometry.{Geometry}
-use Rattle.flash_trace.proofs.Acting.{front_item, new_next, left_next}
+use Rattle.flash_trace.proofs.Playing.Acting.{front_item, new_next, left_next}
 use Rattle.flash_trace.specs.Playing.{Seat, StoreState, act_all}
 use Rattle.flash_trace.specs.Seats.{kept_of, seat_of}
 use Rattle.flash_trace.proofs.play.Seat.do_all.Goals as goal

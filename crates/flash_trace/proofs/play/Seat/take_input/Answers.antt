@@ -1,6 +1,6 @@
 use Rattle.std.proofs.Common.{[], ◌∷◌}
-use Rattle.flash_trace.proofs.Feeding.{reads_both}
-use Rattle.flash_trace.proofs.Turns.{seat_read}
+use Rattle.flash_trace.proofs.Sessions.Feeding.{reads_both}
+use Rattle.flash_trace.proofs.Playing.SeatLists.{seat_read}
 use Rattle.flash_trace.specs.Seats.{seat_of}
 use Rattle.flash_trace.proofs.play.Seat.take_input.Goals as goal
 

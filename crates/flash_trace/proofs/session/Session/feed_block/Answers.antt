@@ -1,7 +1,7 @@
 use Rattle.std.proofs.Common.{◌≡◌, ℕ, ◌-◌, List, [], ◌++◌, drop, refl, sym, ◌∙◌, ap, append-nil, take-append-drop, arith}
 use Rattle.flash_trace.specs.Commands.{InBlock, Behind, read_from}
-use Rattle.flash_trace.proofs.Feeding.{block_grows, block_ends}
-use Rattle.flash_trace.proofs.GoingOn.{moves_on}
+use Rattle.flash_trace.proofs.Sessions.Feeding.{block_grows, block_ends}
+use Rattle.flash_trace.proofs.Sessions.GoingOn.{moves_on}
 use Rattle.flash_trace.proofs.session.Session.feed_block.Goals as goal
 
 pub returns-then-bytes-lacking : goal.returns-then-bytes-lacking

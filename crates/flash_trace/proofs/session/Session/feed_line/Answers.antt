@@ -2,8 +2,8 @@ use Rattle.std.proofs.Common.{◌≡◌, ℕ, ◌+◌, ◌≤◌, List, [], ◌�
 use Rattle.std.specs.Option.{option_map}
 use Rattle.flash_trace.specs.Lines.{line_of, with_feed}
 use Rattle.flash_trace.specs.Commands.{InLine, Ended, read_from, line_read}
-use Rattle.flash_trace.proofs.Feeding.{line_grows, line_ends}
-use Rattle.flash_trace.proofs.GoingOn.{leaves_rest, moves_on}
+use Rattle.flash_trace.proofs.Sessions.Feeding.{line_grows, line_ends}
+use Rattle.flash_trace.proofs.Sessions.GoingOn.{leaves_rest, moves_on}
 use Rattle.flash_trace.proofs.session.Session.feed_line.Goals as goal
 
 pub returns-then-front-len : goal.returns-then-front-len

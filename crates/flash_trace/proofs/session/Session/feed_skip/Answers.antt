@@ -3,8 +3,8 @@ use Rattle.std.specs.Option.{option_map}
 use Rattle.std.proofs.lemmas.Bool.Decides.{nat_tests}
 use Rattle.flash_trace.specs.Lines.{with_feed}
 use Rattle.flash_trace.specs.Commands.{InLine, Skipping, Ended, read_from}
-use Rattle.flash_trace.proofs.Feeding.{skip_grows, skip_ends}
-use Rattle.flash_trace.proofs.GoingOn.{moves_on}
+use Rattle.flash_trace.proofs.Sessions.Feeding.{skip_grows, skip_ends}
+use Rattle.flash_trace.proofs.Sessions.GoingOn.{moves_on}
 use Rattle.flash_trace.proofs.session.Session.feed_skip.Goals as goal
 
 too_many : (n limit : ℕ) (test : Bool) → nat_lt n limit ≡ test → (if test then Some n else None) ≡ None → limit ≤ n

@@ -1,8 +1,8 @@
 use Rattle.std.proofs.Common.{◌≡◌, [], refl, sym, ◌∙◌, ap}
 use Rattle.flash_trace.specs.Commands.{Reader, Ended, read_from}
 use Rattle.flash_trace.specs.Sessions.{reader_at, reader_of}
-use Rattle.flash_trace.proofs.Feeding.{ended}
-use Rattle.flash_trace.proofs.GoingOn.{moves_on}
+use Rattle.flash_trace.proofs.Sessions.Feeding.{ended}
+use Rattle.flash_trace.proofs.Sessions.GoingOn.{moves_on}
 use Rattle.flash_trace.proofs.session.Session.feed_some.Goals as goal
 
 pub returns-in-Ended : goal.returns-in-Ended

@@ -9,7 +9,7 @@ use Rattle.flash_trace.specs.declared.script.StepWord.{StepWord}
 use Rattle.flash_trace.specs.declared.script.StepWord.TheVariants as begins
 use Rattle.flash_trace.specs.Steps.{Step, Say}
 use Rattle.flash_trace.specs.Scripts.{behind_word, session_of, step_word, step_of_word, step_of_words, step_of}
-use Rattle.flash_trace.proofs.ScriptWords.{no_words, behind_first, IsEnd, end_twice}
+use Rattle.flash_trace.proofs.Scripts.Words.{no_words, behind_first, IsEnd, end_twice}
 
 -- words that have a word more
 has_more : (begin : StepWord) (number text input : List ℕ) (ws : List (List ℕ)) (r : Result Step Why) → words input ≡ ws

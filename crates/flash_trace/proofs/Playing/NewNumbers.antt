@@ -20,9 +20,9 @@ use Rattle.flash_trace.specs.Answers.{done_ask}
 use Rattle.flash_trace.specs.Playing.{Seat, StoreState, Play, first_play, after_call, act, act_all, seat_after_run, seat_at, with_seat, with_line, seat_after_input, run, clock, play_step}
 use Rattle.flash_trace.specs.Steps.{Step, Clock, Say, Run, IsSession, IsSeated}
 use Rattle.flash_trace.specs.Seats.{next_id, IsNumbered}
-use Rattle.flash_trace.proofs.Asked.{IsOf, AreOf, store_asked, look_asked}
+use Rattle.flash_trace.proofs.Answering.AskedSteps.{IsOf, AreOf, store_asked, look_asked}
 use Rattle.flash_trace.proofs.Lists.{all_map}
-use Rattle.flash_trace.proofs.Seating.{seat_is, seat_same, seat_other, kept_clock, seats_clock}
+use Rattle.flash_trace.proofs.Playing.Seating.{seat_is, seat_same, seat_other, kept_clock, seats_clock}
 
 -- the number that an entry records is earlier
 abbrev IsBefore : Id → Entry → Type 0

@@ -8,7 +8,7 @@ use Rattle.flash_trace.specs.declared.fault.Why.{Why}
 use Rattle.flash_trace.specs.declared.fault.Why.TheVariants.{Short}
 use Rattle.flash_trace.specs.declared.fault.ScriptFault.{ScriptFault}
 use Rattle.flash_trace.specs.Steps.{Step}
-use Rattle.flash_trace.proofs.Feeds.{cut_there}
+use Rattle.flash_trace.proofs.Sessions.CutBytes.{cut_there}
 use Rattle.flash_trace.specs.CodeScripts.{first_fault}
 use Rattle.flash_trace.specs.Scripts.{Lines, lines_of, in_first_line, step_of, fault_or, steps_fault, fault_from, steps_of, too_long}
 

@@ -3,7 +3,7 @@ use Rattle.std.proofs.Common.{◌≡◌, ℕ, true, List, [], ◌++◌, refl, sy
 use Rattle.std.proofs.lemmas.List.{append-nil}
 use Rattle.flash_trace.specs.declared.command.Command.{Command}
 use Rattle.flash_trace.specs.Commands.{Reader, Read, InLine, Ended, read_from, commands_of, is_at_end}
-use Rattle.flash_trace.proofs.Feeding.{read-append, ended}
+use Rattle.flash_trace.proofs.Sessions.Feeding.{read-append, ended}
 
 module _ (item_max : ℕ) where
   -- these are the commands of the bytes, and the reader is after them

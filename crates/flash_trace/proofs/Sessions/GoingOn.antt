@@ -4,7 +4,7 @@ use Rattle.flash_trace.specs.declared.command.Command.{Command}
 use Rattle.flash_trace.specs.declared.session.Session.{Session}
 use Rattle.flash_trace.specs.Commands.{Reader, Read, read_from}
 use Rattle.flash_trace.specs.Sessions.{reader_of, waiting_of, behind_these, Took, LeavesRest}
-use Rattle.flash_trace.proofs.Feeding.{behind_behind}
+use Rattle.flash_trace.proofs.Sessions.Feeding.{behind_behind}
 
 -- this was read of the bytes before the rest
 pub leaves_rest : (from old new : Session) (r : Reader) (bytes rest : List ℕ) (read : Read) → from.item_max ≡ old.item_max → waiting_of from ≡ waiting_of old → Took from read new

@@ -15,14 +15,14 @@ use Rattle.flash_trace.specs.Commands.{commands_of, is_at_end}
 use Rattle.flash_trace.specs.Playing.{Seat, StoreState, Play, first_play, after_call, act_all, seat_at, with_seat, with_line, seat_after_input, say, seat_after_run, run, clock, play_step, play_from, play_of}
 use Rattle.flash_trace.specs.Seats.{IsNumbered}
 use Rattle.flash_trace.specs.Steps.{Step, Clock, Say, Run, IsSession, IsSeated, AreSeated}
-use Rattle.flash_trace.proofs.Acted.{IsKept, clock_kept, Serves, act_all_serves, act_all_serves_other, act_all_reader, act_all_waiting}
-use Rattle.flash_trace.proofs.InMemory.{first_here}
-use Rattle.flash_trace.proofs.InTurns.{turned_behind, turned_from_first}
-use Rattle.flash_trace.proofs.Moments.{act_all_moment, clock_moment}
-use Rattle.flash_trace.proofs.Numbered.{step_numbered, first_numbered}
-use Rattle.flash_trace.proofs.Seating.{seat_is, seat_same, seat_other, kept_clock, seats_clock, step_seats, nobody}
-use Rattle.flash_trace.proofs.Served.{KeepsTo, served_behind}
-use Rattle.flash_trace.proofs.UpTo.{IsUpTo, given_none, fed_up, closed_up, first_up, is_answered}
+use Rattle.flash_trace.proofs.Answering.Acted.{IsKept, clock_kept, Serves, act_all_serves, act_all_serves_other, act_all_reader, act_all_waiting}
+use Rattle.flash_trace.proofs.Playing.InMemory.{first_here}
+use Rattle.flash_trace.proofs.Answering.BeforeLastRun.{turned_behind, turned_from_first}
+use Rattle.flash_trace.proofs.Playing.Moments.{act_all_moment, clock_moment}
+use Rattle.flash_trace.proofs.Playing.NewNumbers.{step_numbered, first_numbered}
+use Rattle.flash_trace.proofs.Playing.Seating.{seat_is, seat_same, seat_other, kept_clock, seats_clock, step_seats, nobody}
+use Rattle.flash_trace.proofs.Answering.Served.{KeepsTo, served_behind}
+use Rattle.flash_trace.proofs.Answering.UpTo.{IsUpTo, given_none, fed_up, closed_up, first_up, is_answered}
 
 -- whatever was played: the store is kept, and each session is up to the bytes that it was given, and to those of its
 -- last turn

@@ -11,7 +11,7 @@ use Rattle.flash_trace.specs.declared.command.Command.TheVariants.{Get, Store, R
 use Rattle.flash_trace.specs.Fronts.{GoesOnFrom, EachFrontMakesAFront}
 use Rattle.flash_trace.specs.Playing.{Seat, StoreState, Play, first_play, act, act_all, seat_after_input, play_from, play_step, seat_at, with_line, with_seat}
 use Rattle.flash_trace.specs.Steps.{Step, Clock, Say, Run}
-use Rattle.flash_trace.proofs.Seating.{kept_clock}
+use Rattle.flash_trace.proofs.Playing.Seating.{kept_clock}
 
 same_front : (h : List Entry) → GoesOnFrom h h
 same_front h = record { more = []; parts = sym (append-nil h) }

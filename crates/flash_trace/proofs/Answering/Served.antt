@@ -18,12 +18,12 @@ use Rattle.flash_machine.specs.Legal.{IsNew}
 use Rattle.flash_trace.specs.declared.command.Command.{Command}
 use Rattle.flash_trace.specs.Answers.{ask_of, asks_of, outcome_from, or_no_memory, outcome, reply_to, answers_from, answers, entry_ask, IsOneOf, Keeps, HasEntry}
 use Rattle.flash_trace.specs.Replies.{step_text, plain_text}
-use Rattle.flash_trace.proofs.Outcomes.{outcome_behind, outcome_stays}
-use Rattle.flash_trace.proofs.Asked.{IsOf, AreOf}
+use Rattle.flash_trace.proofs.Answering.Outcomes.{outcome_behind, outcome_stays}
+use Rattle.flash_trace.proofs.Answering.AskedSteps.{IsOf, AreOf}
 use Rattle.flash_core.proofs.News.{all_behind}
 use Rattle.flash_trace.proofs.Lists.{all_map, get-front, get-seam}
-use Rattle.flash_trace.proofs.Recorded.{Records}
-use Rattle.flash_trace.proofs.Answering.{answers_same, answers_from-append}
+use Rattle.flash_trace.proofs.Answering.Recorded.{Records}
+use Rattle.flash_trace.proofs.Answering.MoreAnswers.{answers_same, answers_from-append}
 
 -- the session was answered this for these commands, has done so many steps, and each of them is in the journal,
 -- and no other of it

@@ -17,10 +17,10 @@ use Rattle.flash_trace.specs.Commands.{commands_of, is_at_end}
 use Rattle.flash_trace.specs.Playing.{Seat, Play, seat_at, with_seat, with_line, seat_after_input, seat_after_run, act_all, after_call, clock, say, run, play_step, play_from, play_of, first_play}
 use Rattle.flash_trace.specs.Printing.{printed_line, step_prints, steps_print, names, IsPrinted, EveryPlayIsPrinted}
 use Rattle.flash_trace.specs.Steps.{Step, Clock, Say, Run, IsSession, IsSeated, AreSeated}
-use Rattle.flash_trace.proofs.InTurns.{turned_behind, turned_from_first}
+use Rattle.flash_trace.proofs.Answering.BeforeLastRun.{turned_behind, turned_from_first}
 use Rattle.flash_trace.proofs.Lists.{get-set_same, get-set_other}
-use Rattle.flash_trace.proofs.Right.{Holds, step_holds, first_holds}
-use Rattle.flash_trace.proofs.Seating.{step_seats, seats_clock}
+use Rattle.flash_trace.proofs.Answering.Right.{Holds, step_holds, first_holds}
+use Rattle.flash_trace.proofs.Playing.Seating.{step_seats, seats_clock}
 
 -- the text of a line that names the script's line, after what was printed before
 line_text : (printed word : List ℕ) (line : ℕ) → printed ++ word ++ 32 ∷ decimal line ++ 10 ∷ [] ≡ printed ++ printed_line word line
@@ -107,7 +107,7 @@ module _ (g : Geometry) where
   steps_printed before p line (step ∷ steps) now given turned seated was follows =
       let next = play_step g p line step in
       steps_printed (before ++ step ∷ []) next (line + 1) steps (moment_with now step) (λ session. given session ++ bytes_for session step) (λ session. if is_run session step then given session else turned session)
-          seated.1 (step_holds g p line step now given turned seated.0 was) (follows_more before now given turned step follows)
+      seated.1 (step_holds g p line step now given turned seated.0 was) (follows_more before now given turned step follows)
       ∙ ap (λ (l : List ℕ). l ++ steps_print g (before ++ step ∷ []) (line + 1) steps) (step_printed before p line step now given turned seated.0 was follows)
       ∙ append_assoc p.printed (step_prints g before line step) (steps_print g (before ++ step ∷ []) (line + 1) steps)
 
@@ -131,11 +131,11 @@ or_assoc false b c = refl
 made_with : (p : Play) (other session : ℕ) (seat : Seat) → length p.seats ≡ 16 → IsSession other → IsSession session → is_made (with_seat p other seat) session ≡ is_made p session || nat_eq other session
 made_with p other session seat sixteen is-other is = dite (ℕ_discrete other session)
     (λ same. let yes : nat_eq other session ≡ true = grind (arith, nat_tests, same) in
-        ap (λ (o : Option (Option Seat)). is_some (option_flatten o)) (ap (λ n. slice_get (with_seat p other seat).seats (n - 1)) (sym same) ∙ get-set_same p.seats (other - 1) (Some seat) (omega (arith, is-other.some, is-other.within, sixteen)))
-        ∙ sym (ap (λ b. is_made p session || b) yes ∙ or_true (is_made p session)))
+    ap (λ (o : Option (Option Seat)). is_some (option_flatten o)) (ap (λ n. slice_get (with_seat p other seat).seats (n - 1)) (sym same) ∙ get-set_same p.seats (other - 1) (Some seat) (omega (arith, is-other.some, is-other.within, sixteen)))
+    ∙ sym (ap (λ b. is_made p session || b) yes ∙ or_true (is_made p session)))
     (λ differ. let no : nat_eq other session ≡ false = grind (arith, nat_tests, differ) in
-        ap (λ (o : Option (Option Seat)). is_some (option_flatten o)) (get-set_other p.seats (other - 1) (session - 1) (Some seat) (λ same. differ (omega (arith, is-other.some, is.some, same))))
-        ∙ sym (ap (λ b. is_made p session || b) no ∙ or_false (is_made p session)))
+    ap (λ (o : Option (Option Seat)). is_some (option_flatten o)) (get-set_other p.seats (other - 1) (session - 1) (Some seat) (λ same. differ (omega (arith, is-other.some, is.some, same))))
+    ∙ sym (ap (λ b. is_made p session || b) no ∙ or_false (is_made p session)))
 
 module _ (g : Geometry) (session : ℕ) (is : IsSession session) where
   step_made : (p : Play) (line : ℕ) (step : Step) → length p.seats ≡ 16 → IsSeated step → is_made (play_step g p line step) session ≡ is_made p session || names session step

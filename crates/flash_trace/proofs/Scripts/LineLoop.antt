@@ -7,7 +7,7 @@ use Rattle.flash_trace.specs.declared.step.Step as code_step
 use Rattle.flash_trace.specs.Steps.{Step}
 use Rattle.flash_trace.specs.CodeScripts.{step_meant, IsWithin, AreWithin}
 use Rattle.flash_trace.specs.Scripts.{lines_of, steps_of, step_of, fault_from}
-use Rattle.flash_trace.proofs.ScriptLines.{steps_more, fault_more}
+use Rattle.flash_trace.proofs.Scripts.Lines.{steps_more, fault_more}
 
 -- steps with one more, before the steps that are left
 join_pushed : (front : List Step) (s : Step) (rest : Option (List Step)) → option_map (λ more. (front ++ s ∷ []) ++ more) rest ≡ option_map (λ more. front ++ more) (option_map (λ more. s ∷ more) rest)

@@ -27,8 +27,8 @@ use Rattle.flash_core.specs.declared.found.Found.TheVariants as found
 use Rattle.flash_core.proofs.Sweeps.{IsHere, sweeps}
 use Rattle.flash_trace.specs.Answers.{same_id, found_outcome, outcome_from}
 use Rattle.flash_trace.specs.Playing.{outcome_of}
-use Rattle.flash_trace.proofs.Asked.{AreOf, store_asked, look_asked}
-use Rattle.flash_trace.proofs.Outcomes.{same_self, outcome_from-append}
+use Rattle.flash_trace.proofs.Answering.AskedSteps.{AreOf, store_asked, look_asked}
+use Rattle.flash_trace.proofs.Answering.Outcomes.{same_self, outcome_from-append}
 
 -- entries give the step this outcome, and record no other
 pub record Records (g : Geometry) (h : List Entry) (c : Cache) (id : Id) (ask : Ask) (told : Told) (es : List Entry) : Type 0 where

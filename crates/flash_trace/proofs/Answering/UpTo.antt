@@ -8,8 +8,8 @@ use Rattle.flash_trace.specs.declared.command.Command.{Command}
 use Rattle.flash_trace.specs.Answers.{answers, asks_of, Keeps, IsAnswered}
 use Rattle.flash_trace.specs.Commands.{commands_of, read_from, is_at_end}
 use Rattle.flash_trace.specs.Playing.{Seat, new_seat, seat_after_input}
-use Rattle.flash_trace.proofs.Pieces.{IsRead, read_more, read_at_end, read_none}
-use Rattle.flash_trace.proofs.Served.{IsServed}
+use Rattle.flash_trace.proofs.Sessions.Pieces.{IsRead, read_more, read_at_end, read_none}
+use Rattle.flash_trace.proofs.Answering.Served.{IsServed}
 
 -- a session that was given these bytes, and `turns` of them before its last turn, has read their commands, has
 -- done those of `turns`, which are before the ones that wait, and was answered for them

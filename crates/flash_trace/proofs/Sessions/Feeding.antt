@@ -7,7 +7,7 @@ use Rattle.flash_trace.specs.declared.line.SetLine.{SetLine}
 use Rattle.flash_trace.specs.declared.session.Session.{Session}
 use Rattle.flash_trace.specs.Commands.{Reader, InLine, InBlock, Behind, Skipping, Ended, Read, read_from, read_byte}
 use Rattle.flash_trace.specs.Sessions.{reader_of, waiting_of, behind_these, Reads}
-use Rattle.flash_trace.proofs.Feeds.{HasNo}
+use Rattle.flash_trace.proofs.Sessions.CutBytes.{HasNo}
 
 pub behind_behind : (first second : List Command) (read : Read) → behind_these first (behind_these second read) ≡ behind_these (first ++ second) read
 behind_behind first second read = ap (λ (commands : List Command). let pair : Read = (commands, read.1) in pair) (sym (append_assoc first second read.0))

@@ -11,7 +11,7 @@ use Rattle.flash_trace.specs.Playing.{play_step}
 use Rattle.flash_trace.specs.CodeScripts.{step_meant}
 use Rattle.flash_trace.specs.Seats.{AreSeats, TraceGoesOn, IsNumbered, seat_of, state_of}
 use Rattle.flash_trace.specs.Steps.{IsSeated}
-use Rattle.flash_trace.proofs.Numbered.{step_numbered}
+use Rattle.flash_trace.proofs.Playing.NewNumbers.{step_numbered}
 
 -- what follows from an answer's Ok
 pub on_ok : {T E : Type 0} (r : Result T E) (P Q : Type 0) → (P → Q) → OnOk r P → OnOk r Q

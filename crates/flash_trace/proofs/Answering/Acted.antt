@@ -15,11 +15,11 @@ use Rattle.flash_core.proofs.Steps.{store_goes, look_goes}
 use Rattle.flash_trace.specs.declared.command.Command.{Command}
 use Rattle.flash_trace.specs.declared.command.Command.TheVariants.{Get, Store, Refused}
 use Rattle.flash_trace.specs.Playing.{Seat, StoreState, after_call, act, act_all}
-use Rattle.flash_trace.proofs.Asked.{store_asked, look_asked}
-use Rattle.flash_trace.proofs.InMemory.{AreHere, store_here, look_here, clock_here}
-use Rattle.flash_trace.proofs.Numbered.{number_of, plainly, act_new}
-use Rattle.flash_trace.proofs.Recorded.{store_records, look_records}
-use Rattle.flash_trace.proofs.Served.{IsServed, served_other, served_plain, served_step}
+use Rattle.flash_trace.proofs.Answering.AskedSteps.{store_asked, look_asked}
+use Rattle.flash_trace.proofs.Playing.InMemory.{AreHere, store_here, look_here, clock_here}
+use Rattle.flash_trace.proofs.Playing.NewNumbers.{number_of, plainly, act_new}
+use Rattle.flash_trace.proofs.Answering.Recorded.{store_records, look_records}
+use Rattle.flash_trace.proofs.Answering.Served.{IsServed, served_other, served_plain, served_step}
 
 -- the journal is a run that makes the cache, and all its items are in memory
 pub record IsKept (g : Geometry) (k : StoreState) : Type 0 where

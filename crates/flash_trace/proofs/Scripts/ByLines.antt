@@ -13,8 +13,8 @@ use Rattle.flash_trace.specs.declared.fault.ScriptFault.{ScriptFault}
 use Rattle.flash_trace.specs.Steps.{Step}
 use Rattle.flash_trace.specs.Scripts.{Script, Lines, lines_of, step_of, geometry_of, fault_or, too_long, steps_fault, lines_fault, fault_of, steps_of, script_of_parts, script_of_lines, script_of}
 use Rattle.flash_trace.specs.ScriptLaws.{IsOfLines, IsStepLine, HasBadLine, HasOpenLine}
-use Rattle.flash_trace.proofs.ScriptGeometryLine.{by_lines}
-use Rattle.flash_trace.proofs.ScriptReadings.{good_line, good_step}
+use Rattle.flash_trace.proofs.Scripts.FirstLine.{by_lines}
+use Rattle.flash_trace.proofs.Scripts.Readings.{good_line, good_step}
 
 -- a line that was read has no fault
 pass_line : {A : Type 0} (line : ℕ) (r : Result A Why) (later : Option ScriptFault) → is_ok r ≡ true → fault_or line r later ≡ later

@@ -19,7 +19,7 @@ use Rattle.flash_core.specs.Store.{Desk, Call}
 use Rattle.flash_core.specs.Calls.{is_expired_at, sweep, store_call, look_call, clock_call}
 use Rattle.flash_trace.specs.declared.command.Command.{Command}
 use Rattle.flash_trace.specs.declared.command.Command.TheVariants.{Get, Store, Refused}
-use Rattle.flash_trace.proofs.Numbered.{number_of, plainly}
+use Rattle.flash_trace.proofs.Playing.NewNumbers.{number_of, plainly}
 use Rattle.flash_trace.specs.Playing.{Seat, StoreState, act, act_all}
 
 -- a sweep leaves the moment

@@ -5,7 +5,7 @@ use Rattle.flash_names.specs.declared.geometry.Geometry.{Geometry}
 use Rattle.flash_machine.specs.Legal.{IsNew}
 use Rattle.flash_trace.specs.declared.command.Command.{Command}
 use Rattle.flash_trace.specs.Playing.{Seat, StoreState, act, act_all}
-use Rattle.flash_trace.proofs.Numbered.{act_new}
+use Rattle.flash_trace.proofs.Playing.NewNumbers.{act_new}
 
 -- what is left of a list begins with the item at that place
 pub front_item : {A : Type 0} (all : List A) (i : ℕ) (item : A) → i < length all → item ≡ get_or all i item → drop i all ≡ item ∷ drop (i + 1) all

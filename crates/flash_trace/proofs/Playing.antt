@@ -1,0 +1,9 @@
+pub mod Acting
+pub mod InMemory
+pub mod Moments
+pub mod NewNumbers
+pub mod Playback
+pub mod Printed
+pub mod SeatLists
+pub mod Seating
+pub mod StepGoesOn
