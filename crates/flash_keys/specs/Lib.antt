@@ -1,0 +1,5 @@
+pub mod Classes
+pub mod Lent
+pub mod Names
+pub mod Room
+pub mod Seen
