@@ -1,0 +1,13 @@
+mod Lists
+mod Paths
+mod Nodes
+mod Cards
+mod Sums
+mod Rings
+mod Joins
+mod Sound
+mod Added
+mod Changed
+mod Found
+mod Calls
+mod Gone
