@@ -30,7 +30,7 @@ nowhere_of Nowhere e = refl
 pub unused_of : (nodes : List Node) (memory : ℕ) (hot warm cold : List ℕ) → IsRing nodes hot warm cold → (item : ItemId) → cards_of item (lists_at nodes memory hot warm cold) ≡ 0 → home_of nodes (item.key + 3) ≡ Nowhere
 unused_of nodes memory hot warm cold ring item none = nowhere_of (home_of nodes (item.key + 3)) (sym (cards_by_home nodes memory hot warm cold ring item) ∙ none)
 
-module _ (nodes : List Node) (hb wb memory : ℕ) (item : ItemId) (size : ℕ) (hot warm cold : List ℕ) (links : Links nodes hb wb hot warm cold) (inside : item.key + 3 < length nodes) (absent : home_of nodes (item.key + 3) ≡ Nowhere) (fits : size < 2 ^ 32) where
+module _ (nodes : List Node) (hb wb cb memory : ℕ) (item : ItemId) (size : ℕ) (hot warm cold : List ℕ) (links : Links nodes hb wb cb hot warm cold) (inside : item.key + 3 < length nodes) (absent : home_of nodes (item.key + 3) ≡ Nowhere) (fits : size < 2 ^ 32) where
   end_inside : (s : ℕ) → s < 3 → s < length nodes
   end_inside s low = omega arith
 
@@ -78,28 +78,30 @@ module _ (nodes : List Node) (hb wb memory : ℕ) (item : ItemId) (size : ℕ) (
   the_ring : (segment : Segment) → IsRing (linked (item.key + 3) (end_of segment) size (home_in segment) nodes) (into_hot segment (item.key + 3) hot) (into_warm segment (item.key + 3) warm) (into_cold segment (item.key + 3) cold)
   the_ring segment = ring_join segment nodes hot warm cold (item.key + 3) size links.ring (omega arith) inside absent fits
 
-  add_hot : (hot_now warm_now : ℕ) → hot_now ≡ hb + size → warm_now ≡ wb → Closed (linked (item.key + 3) 0 size InHot nodes) hot_now warm_now memory (put_front Hot (idle item size) (lists_at nodes memory hot warm cold))
-  add_hot hot_now warm_now hot_is warm_is =
+  add_hot : (hot_now warm_now cold_now : ℕ) → hot_now ≡ hb + size → warm_now ≡ wb → cold_now ≡ cb → Closed (linked (item.key + 3) 0 size InHot nodes) hot_now warm_now cold_now memory (put_front Hot (idle item size) (lists_at nodes memory hot warm cold))
+  add_hot hot_now warm_now cold_now hot_is warm_is cold_is =
       let low : 0 < 3 = lit< tt in
-      closed_of _ hot_now warm_now memory ((item.key + 3) ∷ hot) warm cold _
+      closed_of _ hot_now warm_now cold_now memory ((item.key + 3) ∷ hot) warm cold _
       (record {
         ring = the_ring Hot;
         hot_sum = omega (arith, hot_is, links.hot_sum, join_size 0 low InHot, join_weight 0 low InHot hot no_hot);
         warm_sum = omega (arith, warm_is, links.warm_sum, join_weight 0 low InHot warm no_warm);
+        cold_sum = omega (arith, cold_is, links.cold_sum, join_weight 0 low InHot cold no_cold);
         short = omega (arith, links.short, join_long 0 low InHot);
       })
       (same_lists_of _ _ _ _ _ _ _ _ memory
       (ap (λ c. c ∷ cards_at (linked (item.key + 3) 0 size InHot nodes) hot) (join_card 0 low InHot) ∙ ap (λ l. idle item size ∷ l) (join_kept 0 low InHot hot no_hot))
       (join_kept 0 low InHot warm no_warm) (join_kept 0 low InHot cold no_cold) (ap (λ k. k - 3) (join_long 0 low InHot)))
 
-  add_warm : (hot_now warm_now : ℕ) → hot_now ≡ hb → warm_now ≡ wb + size → Closed (linked (item.key + 3) 1 size InWarm nodes) hot_now warm_now memory (put_front Warm (idle item size) (lists_at nodes memory hot warm cold))
-  add_warm hot_now warm_now hot_is warm_is =
+  add_warm : (hot_now warm_now cold_now : ℕ) → hot_now ≡ hb → warm_now ≡ wb + size → cold_now ≡ cb → Closed (linked (item.key + 3) 1 size InWarm nodes) hot_now warm_now cold_now memory (put_front Warm (idle item size) (lists_at nodes memory hot warm cold))
+  add_warm hot_now warm_now cold_now hot_is warm_is cold_is =
       let low : 1 < 3 = lit< tt in
-      closed_of _ hot_now warm_now memory hot ((item.key + 3) ∷ warm) cold _
+      closed_of _ hot_now warm_now cold_now memory hot ((item.key + 3) ∷ warm) cold _
       (record {
         ring = the_ring Warm;
         hot_sum = omega (arith, hot_is, links.hot_sum, join_weight 1 low InWarm hot no_hot);
         warm_sum = omega (arith, warm_is, links.warm_sum, join_size 1 low InWarm, join_weight 1 low InWarm warm no_warm);
+        cold_sum = omega (arith, cold_is, links.cold_sum, join_weight 1 low InWarm cold no_cold);
         short = omega (arith, links.short, join_long 1 low InWarm);
       })
       (same_lists_of _ _ _ _ _ _ _ _ memory
@@ -107,14 +109,15 @@ module _ (nodes : List Node) (hb wb memory : ℕ) (item : ItemId) (size : ℕ) (
       (ap (λ c. c ∷ cards_at (linked (item.key + 3) 1 size InWarm nodes) warm) (join_card 1 low InWarm) ∙ ap (λ l. idle item size ∷ l) (join_kept 1 low InWarm warm no_warm))
       (join_kept 1 low InWarm cold no_cold) (ap (λ k. k - 3) (join_long 1 low InWarm)))
 
-  add_cold : (hot_now warm_now : ℕ) → hot_now ≡ hb → warm_now ≡ wb → Closed (linked (item.key + 3) 2 size InCold nodes) hot_now warm_now memory (put_front Cold (idle item size) (lists_at nodes memory hot warm cold))
-  add_cold hot_now warm_now hot_is warm_is =
+  add_cold : (hot_now warm_now cold_now : ℕ) → hot_now ≡ hb → warm_now ≡ wb → cold_now ≡ cb + size → Closed (linked (item.key + 3) 2 size InCold nodes) hot_now warm_now cold_now memory (put_front Cold (idle item size) (lists_at nodes memory hot warm cold))
+  add_cold hot_now warm_now cold_now hot_is warm_is cold_is =
       let low : 2 < 3 = lit< tt in
-      closed_of _ hot_now warm_now memory hot warm ((item.key + 3) ∷ cold) _
+      closed_of _ hot_now warm_now cold_now memory hot warm ((item.key + 3) ∷ cold) _
       (record {
         ring = the_ring Cold;
         hot_sum = omega (arith, hot_is, links.hot_sum, join_weight 2 low InCold hot no_hot);
         warm_sum = omega (arith, warm_is, links.warm_sum, join_weight 2 low InCold warm no_warm);
+        cold_sum = omega (arith, cold_is, links.cold_sum, join_size 2 low InCold, join_weight 2 low InCold cold no_cold);
         short = omega (arith, links.short, join_long 2 low InCold);
       })
       (same_lists_of _ _ _ _ _ _ _ _ memory
@@ -123,10 +126,10 @@ module _ (nodes : List Node) (hb wb memory : ℕ) (item : ItemId) (size : ℕ) (
       (ap (λ k. k - 3) (join_long 2 low InCold)))
 
 -- a card is put at a segment's front
-pub add_closed : (segment : Segment) (nodes : List Node) (hb wb memory : ℕ) (item : ItemId) (size : ℕ) (hot warm cold : List ℕ) → Links nodes hb wb hot warm cold → item.key + 3 < length nodes → home_of nodes (item.key + 3) ≡ Nowhere → size < 2 ^ 32 → (hot_now warm_now : ℕ) → hot_now ≡ hb + in_hot (home_in segment) * size → warm_now ≡ wb + in_warm (home_in segment) * size → Closed (linked (item.key + 3) (end_of segment) size (home_in segment) nodes) hot_now warm_now memory (put_front segment (idle item size) (lists_at nodes memory hot warm cold))
-add_closed Hot nodes hb wb memory item size hot warm cold links inside absent fits hot_now warm_now hot_is warm_is =
-    add_hot nodes hb wb memory item size hot warm cold links inside absent fits hot_now warm_now (omega arith) (omega arith)
-add_closed Warm nodes hb wb memory item size hot warm cold links inside absent fits hot_now warm_now hot_is warm_is =
-    add_warm nodes hb wb memory item size hot warm cold links inside absent fits hot_now warm_now (omega arith) (omega arith)
-add_closed Cold nodes hb wb memory item size hot warm cold links inside absent fits hot_now warm_now hot_is warm_is =
-    add_cold nodes hb wb memory item size hot warm cold links inside absent fits hot_now warm_now (omega arith) (omega arith)
+pub add_closed : (segment : Segment) (nodes : List Node) (hb wb cb memory : ℕ) (item : ItemId) (size : ℕ) (hot warm cold : List ℕ) → Links nodes hb wb cb hot warm cold → item.key + 3 < length nodes → home_of nodes (item.key + 3) ≡ Nowhere → size < 2 ^ 32 → (hot_now warm_now cold_now : ℕ) → hot_now ≡ hb + in_hot (home_in segment) * size → warm_now ≡ wb + in_warm (home_in segment) * size → cold_now ≡ cb + in_cold (home_in segment) * size → Closed (linked (item.key + 3) (end_of segment) size (home_in segment) nodes) hot_now warm_now cold_now memory (put_front segment (idle item size) (lists_at nodes memory hot warm cold))
+add_closed Hot nodes hb wb cb memory item size hot warm cold links inside absent fits hot_now warm_now cold_now hot_is warm_is cold_is =
+    add_hot nodes hb wb cb memory item size hot warm cold links inside absent fits hot_now warm_now cold_now (omega arith) (omega arith) (omega arith)
+add_closed Warm nodes hb wb cb memory item size hot warm cold links inside absent fits hot_now warm_now cold_now hot_is warm_is cold_is =
+    add_warm nodes hb wb cb memory item size hot warm cold links inside absent fits hot_now warm_now cold_now (omega arith) (omega arith) (omega arith)
+add_closed Cold nodes hb wb cb memory item size hot warm cold links inside absent fits hot_now warm_now cold_now hot_is warm_is cold_is =
+    add_cold nodes hb wb cb memory item size hot warm cold links inside absent fits hot_now warm_now cold_now (omega arith) (omega arith) (omega arith)

@@ -21,7 +21,7 @@ pub record SameLinks (old new : Node) : Type 0 where
   pub prev : new.prev ≡ old.prev
   pub home : new.home ≡ old.home
 
-module _ (nodes : List Node) (hb wb memory hot_now warm_now : ℕ) (item : ItemId) (node : Node) (change : Card → Card) (hot warm cold : List ℕ) (links : Links nodes hb wb hot warm cold) (inside : item.key + 3 < length nodes) (same : SameLinks (node_at nodes (item.key + 3)) node) (fits : node.size < 2 ^ 32) where
+module _ (nodes : List Node) (hb wb cb memory hot_now warm_now cold_now : ℕ) (item : ItemId) (node : Node) (change : Card → Card) (hot warm cold : List ℕ) (links : Links nodes hb wb cb hot warm cold) (inside : item.key + 3 < length nodes) (same : SameLinks (node_at nodes (item.key + 3)) node) (fits : node.size < 2 ^ 32) where
   change_cards : (u : ℕ) → (u ≡ item.key + 3 → ⊥) → card_at (set nodes (item.key + 3) node) u ≡ card_at nodes u
   change_cards u n = let e = node_at_other nodes (item.key + 3) node u n in cc (ap (λ v. v.size) e, ap (λ v. v.active) e)
 
@@ -52,15 +52,16 @@ module _ (nodes : List Node) (hb wb memory hot_now warm_now : ℕ) (item : ItemI
   change_list is xs none = cards_changed nodes (set nodes (item.key + 3) node) item change xs change_cards is none
 
   -- a card is changed where it is
-  pub change_closed : (now : Card) → record { item = record { key = item.key + 3 - 3 }; size = node.size; active = node.active } ≡ now → now ≡ change (card_at nodes (item.key + 3)) → hot_now + in_hot (home_of nodes (item.key + 3)) * size_of nodes (item.key + 3) ≡ hb + in_hot (home_of nodes (item.key + 3)) * node.size → warm_now + in_warm (home_of nodes (item.key + 3)) * size_of nodes (item.key + 3) ≡ wb + in_warm (home_of nodes (item.key + 3)) * node.size → Closed (set nodes (item.key + 3) node) hot_now warm_now memory (changed item change (lists_at nodes memory hot warm cold))
-  change_closed now card is hot_is warm_is =
+  pub change_closed : (now : Card) → record { item = record { key = item.key + 3 - 3 }; size = node.size; active = node.active } ≡ now → now ≡ change (card_at nodes (item.key + 3)) → hot_now + in_hot (home_of nodes (item.key + 3)) * size_of nodes (item.key + 3) ≡ hb + in_hot (home_of nodes (item.key + 3)) * node.size → warm_now + in_warm (home_of nodes (item.key + 3)) * size_of nodes (item.key + 3) ≡ wb + in_warm (home_of nodes (item.key + 3)) * node.size → cold_now + in_cold (home_of nodes (item.key + 3)) * size_of nodes (item.key + 3) ≡ cb + in_cold (home_of nodes (item.key + 3)) * node.size → Closed (set nodes (item.key + 3) node) hot_now warm_now cold_now memory (changed item change (lists_at nodes memory hot warm cold))
+  change_closed now card is hot_is warm_is cold_is =
       let there : card_at (set nodes (item.key + 3) node) (item.key + 3) ≡ change (card_at nodes (item.key + 3)) =
       ap (λ (v : Node). let c : Card = record { item = record { key = item.key + 3 - 3 }; size = v.size; active = v.active } in c) change_there ∙ card ∙ is in
-      closed_of _ hot_now warm_now memory hot warm cold _
+      closed_of _ hot_now warm_now cold_now memory hot warm cold _
       (record {
         ring = change_ring;
         hot_sum = change_sum in_hot hb hot_now hot links.hot_sum (links.ring.hot_count (item.key + 3)) hot_is;
         warm_sum = change_sum in_warm wb warm_now warm links.warm_sum (links.ring.warm_count (item.key + 3)) warm_is;
+        cold_sum = change_sum in_cold cb cold_now cold links.cold_sum (links.ring.cold_count (item.key + 3)) cold_is;
         short = omega (arith, links.short, length-set nodes (item.key + 3) node);
       })
       (same_lists_of _ _ _ _ _ _ _ _ memory
@@ -80,13 +81,14 @@ weight_all old new same [] = refl
 weight_all old new same (y ∷ ys) = omega (arith, ap (λ v. v.size) (same y), weight_all old new same ys)
 
 -- blank nodes are added
-pub grow_closed : (old new : List Node) (hb wb memory : ℕ) (hot warm cold : List ℕ) → Links old hb wb hot warm cold → length old ≤ length new → length new ≤ 2 ^ 32 → ((u : ℕ) → node_at new u ≡ node_at old u) → Closed new hb wb memory (record (lists_at old memory hot warm cold) { spare = length new - 3 })
-grow_closed old new hb wb memory hot warm cold links long short same =
-    closed_of new hb wb memory hot warm cold _
+pub grow_closed : (old new : List Node) (hb wb cb memory : ℕ) (hot warm cold : List ℕ) → Links old hb wb cb hot warm cold → length old ≤ length new → length new ≤ 2 ^ 32 → ((u : ℕ) → node_at new u ≡ node_at old u) → Closed new hb wb cb memory (record (lists_at old memory hot warm cold) { spare = length new - 3 })
+grow_closed old new hb wb cb memory hot warm cold links long short same =
+    closed_of new hb wb cb memory hot warm cold _
     (record {
       ring = ring_same old new hot warm cold long (λ u. ap (λ v. v.next) (same u)) (λ u. ap (λ v. v.prev) (same u)) (λ u. ap (λ v. v.home) (same u)) (λ u. omega (arith, ap (λ v. v.size) (same u), links.ring.small u)) links.ring;
       hot_sum = links.hot_sum ∙ sym (weight_all old new same hot);
       warm_sum = links.warm_sum ∙ sym (weight_all old new same warm);
+      cold_sum = links.cold_sum ∙ sym (weight_all old new same cold);
       short = short;
     })
     (same_lists_of _ _ _ _ _ _ _ _ memory (cards_all old new same hot) (cards_all old new same warm) (cards_all old new same cold) refl)

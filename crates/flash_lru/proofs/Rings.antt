@@ -1,12 +1,12 @@
 -- The ring after a number is taken away, and after one is put at a list's front.
-use Rattle.std.proofs.Common.{◌≡◌, ℕ, zero, suc, ◌+◌, ◌-◌, ◌^◌, ◌<◌, ◌≤◌, Bool, true, false, List, [], ◌∷◌, length, refl, sym, ◌∙◌, ap, subst, inl, inr, ◌⊎◌, arith, lit<, lit≤}
+use Rattle.std.proofs.Common.{◌≡◌, ℕ, zero, suc, ◌+◌, ◌-◌, ◌^◌, ◌<◌, ◌≤◌, Bool, true, false, List, [], ◌∷◌, ◌++◌, length, refl, sym, ◌∙◌, ap, subst, inl, inr, ◌⊎◌, arith, lit<, lit≤}
 use Rattle.std.proofs.lemmas.Bool.{cases_eq, cases_lt}
 use Rattle.std.proofs.lemmas.List.{get_or_past}
 use Rattle.flash_lru.specs.declared.node.Node.{Node}
 use Rattle.flash_lru.specs.declared.node.Home.{Home}
 use Rattle.flash_lru.specs.declared.node.Home.TheVariants.{InHot, InWarm, InCold, Nowhere}
 use Rattle.flash_lru.specs.Ring.{blank, node_at, next_of, prev_of, home_of, size_of, unlinked, linked, count_of, Path, walk, walked, in_hot, in_warm, in_cold, IsRing}
-use Rattle.flash_lru.proofs.Lists.{other_than, count_here, count_else, count_other, count_other_same, length_below}
+use Rattle.flash_lru.proofs.Lists.{count_append, other_than, count_here, count_else, count_other, count_other_same, length_below}
 use Rattle.flash_lru.proofs.Paths.{IsLinked, linked_in, cut_path, Joint, kept_path, joint_path, walk_is}
 use Rattle.flash_lru.proofs.Nodes.{unlinked_long, unlinked_else, unlinked_there, unlinked_cut, unlinked_bound, linked_long, linked_else, linked_there, linked_joint, linked_bound}
 use Rattle.flash_lru.proofs.Cards.{NoEnds}
@@ -28,6 +28,12 @@ in_cold_small InHot = lit≤ tt
 in_cold_small InWarm = lit≤ tt
 in_cold_small InCold = lit≤ tt
 in_cold_small Nowhere = lit≤ tt
+
+pub one_home : (h : Home) → in_hot h + in_warm h + in_cold h ≤ 1
+one_home InHot = lit≤ tt
+one_home InWarm = lit≤ tt
+one_home InCold = lit≤ tt
+one_home Nowhere = lit≤ tt
 
 -- the number is in one of the lists
 abbrev pub IsPresent : ℕ → List ℕ → List ℕ → List ℕ → Type 0
@@ -68,6 +74,12 @@ module _ (nodes : List Node) (hot warm cold : List ℕ) (ring : IsRing nodes hot
 
   pub long_cold : length cold ≤ length nodes
   long_cold = length_below (length nodes) cold (λ u. omega (arith, ring.cold_count u, in_cold_small (home_of nodes u))) below_cold
+
+  -- the three lists together have no more numbers than there are nodes
+  pub long_all : length (hot ++ (warm ++ cold)) ≤ length nodes
+  long_all = length_below (length nodes) (hot ++ (warm ++ cold))
+      (λ u. omega (arith, count_append u hot (warm ++ cold), count_append u warm cold, ring.hot_count u, ring.warm_count u, ring.cold_count u, one_home (home_of nodes u)))
+      (λ u past. omega (arith, count_append u hot (warm ++ cold), count_append u warm cold, below_hot u past, below_warm u past, below_cold u past))
 
   -- the walks give the lists
   pub walk_hot : walked nodes 0 ≡ hot

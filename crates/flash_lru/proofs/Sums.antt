@@ -1,5 +1,5 @@
 -- The sum of the sizes of numbers.
-use Rattle.std.proofs.Common.{◌≡◌, ℕ, ◌+◌, ◌-◌, ◌*◌, ◌^◌, ◌<◌, ◌≤◌, Bool, true, false, cond, List, [], ◌∷◌, length, refl, sym, ◌∙◌, ap, subst, inl, inr, ◌⊎◌, arith, add-mul, one-mul}
+use Rattle.std.proofs.Common.{◌≡◌, ℕ, ◌+◌, ◌-◌, ◌*◌, ◌^◌, ◌<◌, ◌≤◌, Bool, true, false, cond, List, [], ◌∷◌, ◌++◌, length, refl, sym, ◌∙◌, ap, subst, inl, inr, ◌⊎◌, arith, add-mul, one-mul}
 use Rattle.std.proofs.lemmas.Bool.{cases_eq}
 use Rattle.std.proofs.lemmas.List.Sums.{sum_by-cons}
 use Rattle.flash_lru.specs.declared.node.Node.{Node}
@@ -53,3 +53,7 @@ weight_changed old new x (y ∷ ys) same =
           let second : count_of x (y ∷ ys) * size_of new x ≡ count_of x ys * size_of new x = ap (λ k. k * size_of new x) (count_else x y ys n) in
           omega (arith, rest, first, second, same y n))
     ]
+
+pub weight_append : (nodes : List Node) (xs ys : List ℕ) → weight nodes (xs ++ ys) ≡ weight nodes xs + weight nodes ys
+weight_append nodes [] ys = omega arith
+weight_append nodes (x ∷ xs) ys = omega (arith, weight_append nodes xs ys)

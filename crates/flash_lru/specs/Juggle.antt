@@ -1,5 +1,5 @@
 -- The move that keeps HOT and WARM within their shares of the memory.
-use Rattle.std.specs.Prelude.{ℕ, ◌*◌, ◌/◌, Bool, List, Option, None, Some, nat_lt, sum_by, if◌then◌else◌}
+use Rattle.std.specs.Prelude.{ℕ, ◌+◌, ◌*◌, ◌/◌, Bool, List, Option, None, Some, nat_lt, sum_by, if◌then◌else◌}
 use Rattle.flash_names.specs.declared.place.ItemId.{ItemId}
 use Rattle.flash_lru.specs.declared.segment.Segment.{Segment}
 use Rattle.flash_lru.specs.declared.segment.Segment.TheVariants.{Warm, Cold}
@@ -12,6 +12,10 @@ use Rattle.flash_lru.specs.Ends.{last_card}
 -- the bytes of a list
 abbrev pub bytes : List Card → ℕ
 bytes cards = sum_by (λ card. card.size) cards
+
+-- the bytes of the three lists
+abbrev pub load_of : SegmentLists → ℕ
+load_of s = bytes s.hot + bytes s.warm + bytes s.cold
 
 -- the list has more bytes than this many percent of the memory
 abbrev pub exceeds : ℕ → SegmentLists → List Card → Bool

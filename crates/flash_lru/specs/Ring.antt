@@ -151,17 +151,18 @@ pub record IsRing (nodes : List Node) (hot warm cold : List ℕ) : Type 0 where
   pub prev_inside : (x bound : ℕ) → 3 ≤ bound → length nodes ≤ bound → prev_of nodes x < bound
   pub small : (x : ℕ) → size_of nodes x < 2 ^ 32
 
--- the nodes link these three lists, and HOT and WARM have so many bytes
-pub record Links (nodes : List Node) (hot_bytes warm_bytes : ℕ) (hot warm cold : List ℕ) : Type 0 where
+-- the nodes link these three lists, which have so many bytes
+pub record Links (nodes : List Node) (hot_bytes warm_bytes cold_bytes : ℕ) (hot warm cold : List ℕ) : Type 0 where
   pub ring : IsRing nodes hot warm cold
   pub hot_sum : hot_bytes ≡ weight nodes hot
   pub warm_sum : warm_bytes ≡ weight nodes warm
+  pub cold_sum : cold_bytes ≡ weight nodes cold
   pub short : length nodes ≤ 2 ^ 32
 
 -- the nodes link the lists that are walked from the three ends
-abbrev pub IsSound : List Node → ℕ → ℕ → Type 0
-IsSound nodes hot_bytes warm_bytes =
-    Links nodes hot_bytes warm_bytes (walked nodes 0) (walked nodes 1) (walked nodes 2)
+abbrev pub IsSound : List Node → ℕ → ℕ → ℕ → Type 0
+IsSound nodes hot_bytes warm_bytes cold_bytes =
+    Links nodes hot_bytes warm_bytes cold_bytes (walked nodes 0) (walked nodes 1) (walked nodes 2)
 
 -- the number has a node, and so have those that it is linked to
 pub record HasNode (nodes : List Node) (number : ℕ) : Type 0 where

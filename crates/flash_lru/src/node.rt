@@ -1,5 +1,5 @@
 ghost use Rattle.std.specs.Prelude.{◌≡◌, ℕ, ◌+◌, ◌*◌, ◌^◌, ◌<◌, ◌≤◌, length, slice_set, OnOk, IsOk};
-ghost use Rattle.flash_lru.specs.Ring.{blank, node_at, prev_of, item_of, some_card, is_listed, HasNode, linked, unlinked, in_hot, in_warm, home_in, end_of, end_after};
+ghost use Rattle.flash_lru.specs.Ring.{blank, node_at, prev_of, item_of, some_card, is_listed, HasNode, linked, unlinked, in_hot, in_warm, in_cold, home_in, end_of, end_after};
 
 use crate::card::Card;
 use crate::segment::Segment;
@@ -67,6 +67,16 @@ impl Node {
         match self.home {
             Home::InWarm => u64::from(self.size),
             Home::InHot | Home::InCold | Home::Nowhere => 0,
+        }
+    }
+
+    /// The bytes that it adds to COLD's.
+    pub fn cold_bytes(&self) -> u64
+        ensures { result ≡ in_cold self.now.home * self.now.size }
+    {
+        match self.home {
+            Home::InCold => u64::from(self.size),
+            Home::InHot | Home::InWarm | Home::Nowhere => 0,
         }
     }
 

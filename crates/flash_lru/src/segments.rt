@@ -1,10 +1,10 @@
-ghost use Rattle.std.specs.Prelude.{◌≡◌, ◌+◌, ◌<◌, ◌≤◌, ◌↔◌, IsTrue, IfSome, OnOk, IsOk};
+ghost use Rattle.std.specs.Prelude.{◌≡◌, ◌+◌, ◌^◌, ◌<◌, ◌≤◌, ◌↔◌, IsTrue, IfSome, OnOk, IsOk};
 ghost use Rattle.flash_names.specs.declared.place.ItemId.{ItemId};
 ghost use Rattle.flash_lru.specs.Card.{idle};
 ghost use Rattle.flash_lru.specs.Lists.{SegmentLists, empty_lists, list_of, cards_of, HasCard};
 ghost use Rattle.flash_lru.specs.Moves.{removed, put_front, moved, touched, resized};
 ghost use Rattle.flash_lru.specs.Ends.{last_card, last_item, last_out, before};
-ghost use Rattle.flash_lru.specs.Juggle.{exceeds, next_move, move_item, with_move};
+ghost use Rattle.flash_lru.specs.Juggle.{exceeds, load_of, next_move, move_item, with_move};
 ghost use Rattle.flash_lru.specs.Law.{HasOneAtMost};
 
 use crate::card::{Card, Move};
@@ -21,6 +21,7 @@ pub struct Segments {
     nodes: Vec<Node>,
     hot_bytes: u64,
     warm_bytes: u64,
+    cold_bytes: u64,
     memory: u64,
 }
 
@@ -32,7 +33,7 @@ impl Model for Segments {
 
     ghost view = { λ s. lists_at s.nodes.items s.memory (walked s.nodes.items 0) (walked s.nodes.items 1) (walked s.nodes.items 2) };
 
-    ghost invariant = { λ s. IsSound s.nodes.items s.hot_bytes s.warm_bytes };
+    ghost invariant = { λ s. IsSound s.nodes.items s.hot_bytes s.warm_bytes s.cold_bytes };
 }
 
 impl Segments {
@@ -45,6 +46,7 @@ impl Segments {
             nodes: Vec::new(alloc),
             hot_bytes: 0,
             warm_bytes: 0,
+            cold_bytes: 0,
             memory,
         }
     }
@@ -94,6 +96,7 @@ impl Segments {
         let after = Node { size, ..before };
         self.hot_bytes = self.hot_bytes - before.hot_bytes() + after.hot_bytes();
         self.warm_bytes = self.warm_bytes - before.warm_bytes() + after.warm_bytes();
+        self.cold_bytes = self.cold_bytes - before.cold_bytes() + after.cold_bytes();
         set_node(&mut self.nodes, item, after);
     }
 
@@ -105,7 +108,15 @@ impl Segments {
         let node = node_of(&self.nodes, item);
         self.hot_bytes -= node.hot_bytes();
         self.warm_bytes -= node.warm_bytes();
+        self.cold_bytes -= node.cold_bytes();
         unlink(&mut self.nodes, item);
+    }
+
+    /// The sum of the sizes of all cards, in bytes.
+    pub fn load(&self) -> u64
+        ensures { result ≡ load_of self.now }
+    {
+        self.hot_bytes + self.warm_bytes + self.cold_bytes
     }
 
     /// The item that leaves memory next: the last of COLD, else of WARM, else of HOT.
@@ -150,9 +161,11 @@ impl Segments {
         Some(next.card.item)
     }
 
-    /// An item has one card at most in the three lists together, and only where there is room for its number.
+    /// An item has one card at most in the three lists together, and only where there is room for its number. It
+    /// does nothing.
     pub fn has_one_each(&self)
-        ensures { (item : ItemId) → HasOneAtMost self.now item }
+        ensures once { (item : ItemId) → HasOneAtMost self.now item }
+        ensures few { self.now.spare < 2 ^ 32 }
     {
         let _ = &self.nodes;
     }
@@ -225,6 +238,7 @@ impl Segments {
         };
         self.hot_bytes += node.hot_bytes();
         self.warm_bytes += node.warm_bytes();
+        self.cold_bytes += node.cold_bytes();
         link(&mut self.nodes, item, segment, size);
     }
 }

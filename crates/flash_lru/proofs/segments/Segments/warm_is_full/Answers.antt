@@ -4,5 +4,5 @@ use Rattle.flash_lru.proofs.segments.Segments.warm_is_full.Goals as goal
 
 pub returns : goal.returns
 returns c =
-    ap (λ (k : ℕ). ltb k c.self.inside.warm_bytes) (c.warm_share.ensures ∙ ap (λ (m : ℕ). m * 40 / 100) (sym (memory_read _ _ _ c.self.inside.memory _ c.self.invariant c.self.view_is)))
-    ∙ ap (λ (k : ℕ). ltb (c.args.self.now.memory * 40 / 100) k) (sym (warm_bytes_read _ _ _ c.self.inside.memory _ c.self.invariant c.self.view_is))
+    ap (λ (k : ℕ). ltb k c.self.inside.warm_bytes) (c.warm_share.ensures ∙ ap (λ (m : ℕ). m * 40 / 100) (sym (memory_read _ _ _ _ c.self.inside.memory _ c.self.invariant c.self.view_is)))
+    ∙ ap (λ (k : ℕ). ltb (c.args.self.now.memory * 40 / 100) k) (sym (warm_bytes_read _ _ _ _ c.self.inside.memory _ c.self.invariant c.self.view_is))
