@@ -1,0 +1,5 @@
+pub mod OpenLemmas
+pub mod QueueLemmas
+pub mod SlotsLemmas
+pub mod SoundLemmas
+pub mod TableLemmas
