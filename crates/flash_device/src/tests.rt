@@ -1,5 +1,7 @@
 use super::*;
+use std::sync::Arc;
 use std::test::Fail;
+use std::{fs, process};
 
 #[test]
 fn holds_what_was_written(rt: HostRuntime) -> Result<(), Fail> {
@@ -58,4 +60,51 @@ fn first_and_last<D: Device>(device: &mut D) -> Option<(u8, u8)> {
     let mut bytes = [9; 2];
     device.read(0, 0, &mut bytes).ok()?;
     Some((bytes[0], bytes[1]))
+}
+
+#[test]
+fn damages_one_byte(rt: HostRuntime) -> Result<(), Fail> {
+    let memory = MemoryDevice::new(rt.alloc(), vec![in rt.alloc()]?);
+    let mut device = DamagedDevice::new(memory, 1, 2);
+    assert_eq!(rt; device.prepare(2, 4), Ok(()));
+    assert_eq!(rt; device.write(1, 0, b"abcd"), Ok(()));
+    let mut bytes = [9; 3];
+    assert_eq!(rt; device.read(1, 1, &mut bytes), Ok(()));
+    assert_eq!(rt; bytes, *b"bbd");
+    assert_eq!(rt; device.read(0, 1, &mut bytes), Ok(()));
+    assert_eq!(rt; bytes, [0; 3]);
+    Ok(())
+}
+
+#[test]
+fn waits_for_its_gate(rt: HostRuntime) -> Result<(), Fail> {
+    let gate = Arc::new(rt.alloc(), Gate::new())?;
+    let behind = FaultlessDevice::new(rt.alloc());
+    let mut device = GatedDevice::new(behind, Arc::try_clone(&gate)?, 3);
+    assert_eq!(rt; device.prepare(1, 2), Ok(()));
+    assert_eq!(rt; device.write(0, 0, b"ab"), Ok(()));
+    let mut bytes = [9; 2];
+    assert_eq!(rt; device.read(0, 0, &mut bytes), Err(DeviceFault));
+    gate.open();
+    assert_eq!(rt; device.read(0, 0, &mut bytes), Ok(()));
+    assert_eq!(rt; bytes, *b"ab");
+    Ok(())
+}
+
+#[test]
+fn keeps_its_bytes_in_a_file(rt: HostRuntime) -> Result<(), Fail> {
+    let path = format!(in rt.alloc(); "/tmp/flash_device_{}", process::id(rt.process()))?;
+    let mut device = FileDevice::open(&rt, path.as_str())?;
+    assert_eq!(rt; device.prepare(3, 4), Ok(()));
+    assert_eq!(rt; device.write(2, 1, b"abc"), Ok(()));
+    let mut second = device.handle()?;
+    let mut bytes = [9; 4];
+    assert_eq!(rt; second.read(2, 0, &mut bytes), Ok(()));
+    assert_eq!(rt; bytes, [0, b'a', b'b', b'c']);
+    let mut third = FileDevice::open_prepared(&rt, path.as_str(), 3, 4)?;
+    assert_eq!(rt; third.read(2, 2, &mut bytes[..2]), Ok(()));
+    assert_eq!(rt; bytes, [b'b', b'c', b'b', b'c']);
+    fs::remove_file(&rt, path.as_str())?;
+    assert!(rt; FileDevice::open(&rt, "/tmp").is_err());
+    Ok(())
 }

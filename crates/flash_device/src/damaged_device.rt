@@ -1,0 +1,102 @@
+ghost use Rattle.std.specs.Prelude.{◌≡◌, ◌≤◌, length, None, Some, IsSomeAnd, OnOk, OnErr, IsTrue, is_err};
+ghost use Rattle.flash_names.specs.Faults.{Counts, Rose};
+ghost use Rattle.flash_device.specs.Calls.{Called, is_fault, told_by};
+ghost use Rattle.flash_device.specs.Damage.{flipped, damaged};
+ghost use Rattle.flash_device.specs.Memory.{blank};
+ghost use Rattle.flash_device.specs.Pages.{Within, range_of, overwritten, Spoils};
+
+use crate::{Device, DeviceFault, MemoryDevice, PrepareError};
+
+/// A device in memory of which every read gives one byte wrong: the one at an offset of a page, with its lowest bit
+/// turned over. It tells its calls but no bytes.
+#[derive(Debug, Drop)]
+pub struct DamagedDevice {
+    device: MemoryDevice,
+    page: u32,
+    offset: u32,
+}
+
+impl DamagedDevice {
+    ghost use Rattle.flash_device.specs.DamagedDevice.{held_by, plan_of, damage_of};
+    ghost use Rattle.flash_device.specs.MemoryDevice as memory;
+
+    /// The device with the byte at this offset of this page damaged.
+    pub fn new(device: MemoryDevice, page: u32, offset: u32) -> DamagedDevice
+        ensures held { held_by result ≡ memory.held_by device }
+        ensures plan { plan_of result ≡ memory.plan_of device }
+        ensures damage { damage_of result ≡ (page, offset) }
+    {
+        DamagedDevice {
+            device,
+            page,
+            offset,
+        }
+    }
+}
+
+impl Device for DamagedDevice {
+    ghost use Rattle.flash_device.specs.DamagedDevice.{held_by, plan_of, damage_of};
+
+    ghost content = { λ _. None };
+
+    ghost calls = { λ d. told_by (plan_of d) };
+
+    ghost prepared = { λ d. (held_by d).shape };
+
+    ghost faults = { λ d. (plan_of d).faults };
+
+    fn prepare(&mut self, pages: u32, page_size: u32) -> Result<(), PrepareError>
+        ensures ready { OnOk result ((held_by self.new).shape ≡ Some (record { pages = pages; page_size = page_size })) }
+        ensures refused { OnErr result (held_by self.new ≡ held_by self.old) }
+        ensures called { Called (is_fault result) (told_by (plan_of self.old)) (told_by (plan_of self.new)) }
+        ensures kept { (plan_of self.old).faults ≤ (plan_of self.new).faults }
+        ensures cause { IsTrue (is_fault result) → Rose (plan_of self.old).faults (plan_of self.new).faults }
+
+        // Where there is memory its pages are zeros then, and the damage is where it was.
+        ensures blank { OnOk result (held_by self.new ≡ blank (record { pages = pages; page_size = page_size })) }
+        ensures damage { damage_of self.new ≡ damage_of self.old }
+    {
+        self.device.prepare(pages, page_size)
+    }
+
+    fn read(&mut self, page: u32, offset: u32, into: &mut [u8]) -> Result<(), DeviceFault>
+        requires { IsSomeAnd (held_by self.old).shape (Within page offset (length into.old)) }
+        ensures prepared { (held_by self.new).shape ≡ (held_by self.old).shape }
+        ensures called { Called (is_err result) (told_by (plan_of self.old)) (told_by (plan_of self.new)) }
+        ensures counts { Counts (plan_of self.old).faults (plan_of self.new).faults result }
+
+        // It gives what the memory has, but for the damaged byte, and changes neither.
+        ensures damaged { OnOk result (into.new ≡ damaged (damage_of self.old) page offset (range_of page offset (length into.old) (held_by self.old).pages)) }
+        ensures held { held_by self.new ≡ held_by self.old }
+        ensures damage { damage_of self.new ≡ damage_of self.old }
+    {
+        self.device.read(page, offset, into)?;
+        if page == self.page && offset <= self.offset {
+            flip(into, (self.offset - offset) as usize);
+        }
+        Ok(())
+    }
+
+    fn write(&mut self, page: u32, offset: u32, bytes: &[u8]) -> Result<(), DeviceFault>
+        requires { IsSomeAnd (held_by self.old).shape (Within page offset (length bytes.now)) }
+        ensures prepared { (held_by self.new).shape ≡ (held_by self.old).shape }
+        ensures called { Called (is_err result) (told_by (plan_of self.old)) (told_by (plan_of self.new)) }
+        ensures counts { Counts (plan_of self.old).faults (plan_of self.new).faults result }
+
+        // The bytes are in the memory, and the damage is where it was.
+        ensures held { OnOk result ((held_by self.new).pages ≡ overwritten page offset bytes.now (held_by self.old).pages) }
+        ensures spoiled { OnErr result (Spoils page offset (length bytes.now) (Some (held_by self.old).pages) (Some (held_by self.new).pages)) }
+        ensures damage { damage_of self.new ≡ damage_of self.old }
+    {
+        self.device.write(page, offset, bytes)
+    }
+}
+
+// Turns the lowest bit of the byte at an index over, where there is one.
+fn flip(bytes: &mut [u8], index: usize)
+    ensures { bytes.new ≡ flipped index bytes.old }
+{
+    if index < bytes.len() {
+        bytes[index] ^= 1;
+    }
+}
