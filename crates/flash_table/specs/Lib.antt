@@ -1,0 +1,9 @@
+pub mod Chains
+pub mod Entries
+pub mod Flat
+pub mod Growth
+pub mod Held
+pub mod Home
+pub mod Maps
+pub mod Pairs
+pub mod Table

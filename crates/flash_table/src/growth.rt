@@ -1,0 +1,86 @@
+ghost use Rattle.std.specs.Prelude.{◌≡◌, ◌+◌, ◌*◌, ◌<◌, ◌^◌, ℕ, length, IfOk};
+ghost use Rattle.flash_table.specs.Chains.{chain_of};
+ghost use Rattle.flash_table.specs.Entries.{entry_at, vacant as the_vacant};
+ghost use Rattle.flash_table.specs.Growth.{goes, going, IsToDivide, IsDivided};
+ghost use Rattle.flash_table.specs.Home.{power as the_power};
+
+use crate::chain::Chain;
+use crate::chains::{entry_in, put_in};
+use crate::entry::{Entry, vacant};
+use crate::home::home_of;
+use flash_keys::KeyStore;
+use flash_names::hash_of;
+use std::alloc::{AllocError, Global};
+
+// A chain of so many empty groups, or out of memory.
+pub fn empty_chain(alloc: Global, groups: usize) -> Result<Chain, AllocError>
+    ensures long { IfOk result (λ chain. length chain ≡ groups * 16) }
+    ensures free { IfOk result (λ chain. (i : ℕ) → entry_at chain i ≡ the_vacant) }
+{
+    let mut chain = Chain::new(alloc);
+    'groups: for group in 0..groups {
+        prove!(group < groups);
+        chain.add_group()?;
+    }
+    Ok(chain)
+}
+
+// Whether the key of an entry has this home among the homes.
+pub fn goes_to(keys: &KeyStore, entry: &Entry, homes: u64, power: u64, home: u64) -> bool
+    requires some { 0 < homes }
+    requires few { homes < 2 ^ 32 }
+    requires power { power ≡ the_power homes }
+    ensures { result ≡ goes keys.now homes home entry.now }
+{
+    if entry.tag == 0 {
+        return false;
+    }
+    match keys.bytes(entry.id) {
+        Some(key) => home_of(hash_of(key), homes, power) == home,
+        None => false,
+    }
+}
+
+// How many keys of a chain have this home among the homes.
+pub fn count_going(keys: &KeyStore, chain: &Chain, homes: u64, power: u64, home: u64) -> usize
+    requires some { 0 < homes }
+    requires few { homes < 2 ^ 32 }
+    requires power { power ≡ the_power homes }
+    ensures { result ≡ going keys.now homes home chain.now }
+{
+    let mut count = 0;
+    'going: for slot in 0..chain.len() {
+        if goes_to(keys, &chain.at(slot), homes, power, home) {
+            count += 1;
+        }
+    }
+    count
+}
+
+// Moves the keys of a home that now have the last home there, in the order in which they were.
+pub fn divide(keys: &KeyStore, chains: &mut Vec<Chain>, power: u64, from: usize, last: usize)
+    requires divide { IsToDivide keys.now chains.old.items last from }
+    requires power { power ≡ the_power (last + 1) }
+    ensures { IsDivided keys.now chains.old.items chains.new.items last from }
+{
+    let homes = chains.len() as u64;
+    let slots = slots_in(chains, from);
+    let mut next = 0;
+    'slots: for slot in 0..slots {
+        let entry = entry_in(chains, from, slot);
+        if goes_to(keys, &entry, homes, power, last as u64) {
+            put_in(chains, from, slot, vacant());
+            put_in(chains, last, next, entry);
+            next += 1;
+        }
+    }
+}
+
+// The number of slots of a home.
+fn slots_in(chains: &Vec<Chain>, home: usize) -> usize
+    requires { home < length chains.now.items }
+    ensures { result ≡ length (chain_of chains.now.items home) }
+{
+    let chain = &chains[home];
+    chain.len()
+}
