@@ -16,16 +16,12 @@ use Rattle.flash_lru.specs.Ends.{last_card, before, before_from}
 use Rattle.flash_lru.specs.Juggle.{bytes, load_of}
 use Rattle.flash_lru.specs.Law.{HasOneAtMost}
 use Rattle.flash_lru.proofs.Sums.{bytes_is}
-use Rattle.flash_lru.specs.Ring.{node_at, prev_of, home_of, size_of, cards_at, card_at, item_of, some_card, is_listed, walked, lists_at, in_hot, in_warm, in_cold, home_in, end_of, end_after, unlinked, linked, count_of, HasNode, IsRing, IsSound}
+use Rattle.flash_lru.specs.Ring.{seen, node_at, prev_of, home_of, size_of, cards_at, card_at, item_of, some_card, is_listed, walked, lists_at, in_hot, in_warm, in_cold, home_in, end_of, end_after, unlinked, linked, count_of, HasNode, IsRing, IsSound}
 use Rattle.flash_lru.proofs.Rings.{one_home, no_ends_hot, no_ends_warm, no_ends_cold}
 use Rattle.flash_lru.proofs.Sound.{Closed, card_node, inside_of, present_of, cards_by_home, cut_closed, node_in}
 use Rattle.flash_lru.proofs.Added.{add_closed, unused_of}
 use Rattle.flash_lru.proofs.Changed.{change_closed, grow_closed}
 use Rattle.flash_lru.proofs.Found.{last_is, before_there, before_absent}
-
--- what a contract sees of the nodes
-abbrev pub seen : List Node → ℕ → SegmentLists
-seen nodes memory = lists_at nodes memory (walked nodes 0) (walked nodes 1) (walked nodes 2)
 
 module _ (nodes : List Node) (hb wb cb memory : ℕ) (item : ItemId) (value : SegmentLists) (sound : IsSound nodes hb wb cb) (is : seen nodes memory ≡ value) where
   pub has_node : HasCard value item → HasNode nodes (item.key + 3)

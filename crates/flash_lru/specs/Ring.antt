@@ -77,6 +77,10 @@ lists_at nodes memory hot warm cold = record {
   memory = memory;
 }
 
+-- what a contract sees of the nodes
+abbrev pub seen : List Node → ℕ → SegmentLists
+seen nodes memory = lists_at nodes memory (walked nodes 0) (walked nodes 1) (walked nodes 2)
+
 -- from one number over these to another, each is linked to the next, and back
 abbrev pub Path : (ℕ → ℕ) → (ℕ → ℕ) → ℕ → List ℕ → ℕ → Type 0
 Path next prev from [] to = (next from ≡ to) × (prev to ≡ from)

@@ -27,11 +27,11 @@ pub struct Segments {
 
 impl Model for Segments {
     ghost use Rattle.flash_lru.specs.Lists.{SegmentLists};
-    ghost use Rattle.flash_lru.specs.Ring.{lists_at, walked, IsSound};
+    ghost use Rattle.flash_lru.specs.Ring.{seen, IsSound};
 
     ghost Value = { SegmentLists };
 
-    ghost view = { λ s. lists_at s.nodes.items s.memory (walked s.nodes.items 0) (walked s.nodes.items 1) (walked s.nodes.items 2) };
+    ghost view = { λ s. seen s.nodes.items s.memory };
 
     ghost invariant = { λ s. IsSound s.nodes.items s.hot_bytes s.warm_bytes s.cold_bytes };
 }
