@@ -1,2 +1,2 @@
 mod Halves
-pub mod Places
+pub mod Ranges

@@ -21,12 +21,13 @@ Called fault before None = Unit {0}
 Called fault None (Some now) = ⊥
 Called fault (Some before) (Some now) = (now ≡ record before { made = before.made + 1 }) × (fault ≡ is_listed now)
 
--- whether preparing ended in a fault, which want of memory isn't
+-- whether preparing ended in a fault, which out of memory isn't
 abbrev pub is_fault : Result ⊤ PrepareError → Bool
 is_fault (Ok done) = false
 is_fault (Err NoMemory) = false
 is_fault (Err Fault) = true
 
 -- what a device with this plan tells: its calls, while they are fewer than 2^64 - 1
-abbrev pub told_by : Plan → Option Calls
-told_by plan = if nat_lt plan.calls (2 ^ 64 - 1) then Some (record { made = plan.calls; fails = plan.fails }) else None
+abbrev pub calls_told : Plan → Option Calls
+calls_told plan =
+    if nat_lt plan.calls (2 ^ 64 - 1) then Some (record { made = plan.calls; fails = plan.fails }) else None

@@ -5,8 +5,8 @@ use Rattle.flash_device.specs.Memory.{Held}
 use Rattle.flash_device.specs.declared.damaged_device.DamagedDevice.{DamagedDevice}
 
 -- its pages, without the damage
-abbrev pub held_by : DamagedDevice → Held
-held_by device = device.device.memory
+abbrev pub memory_of : DamagedDevice → Held
+memory_of device = device.device.memory
 
 -- its plan: the calls that fail, and what it has counted
 abbrev pub plan_of : DamagedDevice → Plan

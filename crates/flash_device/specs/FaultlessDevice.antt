@@ -3,5 +3,5 @@ use Rattle.flash_device.specs.Memory.{Held}
 use Rattle.flash_device.specs.declared.faultless_device.FaultlessDevice.{FaultlessDevice}
 
 -- its pages
-abbrev pub held_by : FaultlessDevice → Held
-held_by device = device.memory
+abbrev pub memory_of : FaultlessDevice → Held
+memory_of device = device.memory

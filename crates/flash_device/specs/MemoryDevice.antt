@@ -4,8 +4,8 @@ use Rattle.flash_device.specs.Memory.{Held}
 use Rattle.flash_device.specs.declared.memory_device.MemoryDevice.{MemoryDevice}
 
 -- its pages
-abbrev pub held_by : MemoryDevice → Held
-held_by device = device.memory
+abbrev pub memory_of : MemoryDevice → Held
+memory_of device = device.memory
 
 -- its plan: the calls that fail, and what it has counted
 abbrev pub plan_of : MemoryDevice → Plan

@@ -1,9 +1,9 @@
 ghost use Rattle.std.specs.Prelude.{◌≡◌, ◌≤◌, length, None, Some, IsSomeAnd, OnOk, OnErr, IsTrue, is_err};
 ghost use Rattle.flash_names.specs.Faults.{Counts, Rose};
-ghost use Rattle.flash_device.specs.Calls.{Called, is_fault, told_by};
+ghost use Rattle.flash_device.specs.Calls.{Called, is_fault, calls_told};
 ghost use Rattle.flash_device.specs.Damage.{flipped, damaged};
 ghost use Rattle.flash_device.specs.Memory.{blank};
-ghost use Rattle.flash_device.specs.Pages.{Within, range_of, overwritten, Spoils};
+ghost use Rattle.flash_device.specs.Pages.{shape_with, Within, range_of, pages_with, Spoils};
 
 use crate::{Device, DeviceFault, MemoryDevice, PrepareError};
 
@@ -17,12 +17,12 @@ pub struct DamagedDevice {
 }
 
 impl DamagedDevice {
-    ghost use Rattle.flash_device.specs.DamagedDevice.{held_by, plan_of, damage_of};
+    ghost use Rattle.flash_device.specs.DamagedDevice.{memory_of, plan_of, damage_of};
     ghost use Rattle.flash_device.specs.MemoryDevice as memory;
 
     /// The device with the byte at this offset of this page damaged.
     pub fn new(device: MemoryDevice, page: u32, offset: u32) -> DamagedDevice
-        ensures held { held_by result ≡ memory.held_by device }
+        ensures held { memory_of result ≡ memory.memory_of device }
         ensures plan { plan_of result ≡ memory.plan_of device }
         ensures damage { damage_of result ≡ (page, offset) }
     {
@@ -35,39 +35,41 @@ impl DamagedDevice {
 }
 
 impl Device for DamagedDevice {
-    ghost use Rattle.flash_device.specs.DamagedDevice.{held_by, plan_of, damage_of};
+    ghost use Rattle.flash_device.specs.DamagedDevice.{memory_of, plan_of, damage_of};
 
     ghost content = { λ _. None };
 
-    ghost calls = { λ d. told_by (plan_of d) };
+    ghost calls = { λ d. calls_told (plan_of d) };
 
-    ghost prepared = { λ d. (held_by d).shape };
+    ghost prepared = { λ d. (memory_of d).shape };
 
     ghost faults = { λ d. (plan_of d).faults };
 
     fn prepare(&mut self, pages: u32, page_size: u32) -> Result<(), PrepareError>
-        ensures ready { OnOk result ((held_by self.new).shape ≡ Some (record { pages = pages; page_size = page_size })) }
-        ensures refused { OnErr result (held_by self.new ≡ held_by self.old) }
-        ensures called { Called (is_fault result) (told_by (plan_of self.old)) (told_by (plan_of self.new)) }
+        ensures ready { OnOk result ((memory_of self.new).shape ≡ Some (shape_with pages page_size)) }
+        ensures refused { OnErr result (memory_of self.new ≡ memory_of self.old) }
+        ensures called { Called (is_fault result) (calls_told (plan_of self.old)) (calls_told (plan_of self.new)) }
         ensures kept { (plan_of self.old).faults ≤ (plan_of self.new).faults }
         ensures cause { IsTrue (is_fault result) → Rose (plan_of self.old).faults (plan_of self.new).faults }
 
         // Where there is memory its pages are zeros then, and the damage is where it was.
-        ensures blank { OnOk result (held_by self.new ≡ blank (record { pages = pages; page_size = page_size })) }
+        ensures blank { OnOk result (memory_of self.new ≡ blank (shape_with pages page_size)) }
         ensures damage { damage_of self.new ≡ damage_of self.old }
     {
         self.device.prepare(pages, page_size)
     }
 
     fn read(&mut self, page: u32, offset: u32, into: &mut [u8]) -> Result<(), DeviceFault>
-        requires { IsSomeAnd (held_by self.old).shape (Within page offset (length into.old)) }
-        ensures prepared { (held_by self.new).shape ≡ (held_by self.old).shape }
-        ensures called { Called (is_err result) (told_by (plan_of self.old)) (told_by (plan_of self.new)) }
+        requires { IsSomeAnd (memory_of self.old).shape (Within page offset (length into.old)) }
+        ensures prepared { (memory_of self.new).shape ≡ (memory_of self.old).shape }
+        ensures called { Called (is_err result) (calls_told (plan_of self.old)) (calls_told (plan_of self.new)) }
         ensures counts { Counts (plan_of self.old).faults (plan_of self.new).faults result }
 
         // It gives what the memory has, but for the damaged byte, and changes neither.
-        ensures damaged { OnOk result (into.new ≡ damaged (damage_of self.old) page offset (range_of page offset (length into.old) (held_by self.old).pages)) }
-        ensures held { held_by self.new ≡ held_by self.old }
+        ensures damaged { OnOk result (into.new
+            ≡ damaged (damage_of self.old) page offset
+            (range_of page offset (length into.old) (memory_of self.old).pages)) }
+        ensures held { memory_of self.new ≡ memory_of self.old }
         ensures damage { damage_of self.new ≡ damage_of self.old }
     {
         self.device.read(page, offset, into)?;
@@ -78,14 +80,17 @@ impl Device for DamagedDevice {
     }
 
     fn write(&mut self, page: u32, offset: u32, bytes: &[u8]) -> Result<(), DeviceFault>
-        requires { IsSomeAnd (held_by self.old).shape (Within page offset (length bytes.now)) }
-        ensures prepared { (held_by self.new).shape ≡ (held_by self.old).shape }
-        ensures called { Called (is_err result) (told_by (plan_of self.old)) (told_by (plan_of self.new)) }
+        requires { IsSomeAnd (memory_of self.old).shape (Within page offset (length bytes.now)) }
+        ensures prepared { (memory_of self.new).shape ≡ (memory_of self.old).shape }
+        ensures called { Called (is_err result) (calls_told (plan_of self.old)) (calls_told (plan_of self.new)) }
         ensures counts { Counts (plan_of self.old).faults (plan_of self.new).faults result }
 
         // The bytes are in the memory, and the damage is where it was.
-        ensures held { OnOk result ((held_by self.new).pages ≡ overwritten page offset bytes.now (held_by self.old).pages) }
-        ensures spoiled { OnErr result (Spoils page offset (length bytes.now) (Some (held_by self.old).pages) (Some (held_by self.new).pages)) }
+        ensures held { OnOk result ((memory_of self.new).pages
+            ≡ pages_with page offset bytes.now (memory_of self.old).pages) }
+        ensures spoiled { OnErr result
+            (Spoils page offset (length bytes.now) (Some (memory_of self.old).pages)
+            (Some (memory_of self.new).pages)) }
         ensures damage { damage_of self.new ≡ damage_of self.old }
     {
         self.device.write(page, offset, bytes)

@@ -3,7 +3,7 @@ ghost use Rattle.std.specs.Option.{ForSome};
 ghost use Rattle.flash_names.specs.Faults.{Counts, Rose};
 ghost use Rattle.flash_device.specs.declared.shape.Shape.{Shape};
 ghost use Rattle.flash_device.specs.Calls.{Calls, Called, is_fault};
-ghost use Rattle.flash_device.specs.Pages.{HasShape, Within, range_of, Holds, Spoils};
+ghost use Rattle.flash_device.specs.Pages.{shape_with, HasShape, Within, range_of, Holds, Spoils};
 
 use crate::{DeviceFault, PrepareError};
 
@@ -21,12 +21,14 @@ pub trait Device {
     /// How often it has failed. It never falls.
     ghost faults: { Self → ℕ };
 
-    /// Makes the device ready for so many pages of so many bytes each. What bytes they then have isn't said.
-    /// After an error it is as ready as before, and has the bytes that it had.
+    /// Makes the device ready for so many pages of so many bytes each. What bytes they then have isn't said. After an
+    /// error it is as ready as before, and has the bytes that it had. A device that tells its calls counts this as one
+    /// call, which failed only where the answer is `Fault`; one that tells its bytes tells them afterwards too.
     fn prepare(&mut self, pages: u32, page_size: u32) -> Result<(), PrepareError>
-        ensures ready { OnOk result (prepared self.new ≡ Some (record { pages = pages; page_size = page_size })) }
-        ensures shaped { OnOk result (ForSome (content self.new) (HasShape (record { pages = pages; page_size = page_size }))) }
-        ensures refused { OnErr result ((prepared self.new ≡ prepared self.old) × (content self.new ≡ content self.old)) }
+        ensures ready { OnOk result (prepared self.new ≡ Some (shape_with pages page_size)) }
+        ensures shaped { OnOk result (ForSome (content self.new) (HasShape (shape_with pages page_size))) }
+        ensures refused { OnErr result ((prepared self.new ≡ prepared self.old)
+            × (content self.new ≡ content self.old)) }
 
         // It doesn't begin or cease to tell its bytes.
         ensures tells { is_some (content self.new) ≡ is_some (content self.old) }
@@ -38,7 +40,8 @@ pub trait Device {
     /// be prepared, and the range to lie in the page. After a fault `into` may hold anything.
     fn read(&mut self, page: u32, offset: u32, into: &mut [u8]) -> Result<(), DeviceFault>
         requires { IsSomeAnd (prepared self.old) (Within page offset (length into.old)) }
-        ensures given { OnOk result (ForSome (content self.old) (λ pages. into.new ≡ range_of page offset (length into.old) pages)) }
+        ensures given { OnOk result (ForSome (content self.old) (λ pages. into.new
+            ≡ range_of page offset (length into.old) pages)) }
         ensures same { content self.new ≡ content self.old }
         ensures prepared { prepared self.new ≡ prepared self.old }
         ensures called { Called (is_err result) (calls self.old) (calls self.new) }

@@ -3,7 +3,7 @@ ghost use Rattle.std.specs.Option.{ForSome};
 ghost use Rattle.flash_names.specs.Faults.{Counts, Rose};
 ghost use Rattle.flash_device.specs.Calls.{Called, is_fault};
 ghost use Rattle.flash_device.specs.Memory.{blank};
-ghost use Rattle.flash_device.specs.Pages.{HasShape, Within, range_of, Holds, Spoils};
+ghost use Rattle.flash_device.specs.Pages.{shape_with, HasShape, Within, range_of, Holds, Spoils};
 
 use crate::page_memory::PageMemory;
 use crate::{Device, DeviceFault, PrepareError};
@@ -16,11 +16,11 @@ pub struct FaultlessDevice {
 }
 
 impl FaultlessDevice {
-    ghost use Rattle.flash_device.specs.FaultlessDevice.{held_by};
+    ghost use Rattle.flash_device.specs.FaultlessDevice.{memory_of};
 
     /// A device with no pages.
     pub fn new(alloc: Global) -> FaultlessDevice
-        ensures { held_by result ≡ record { shape = None; pages = [] } }
+        ensures { memory_of result ≡ record { shape = None; pages = [] } }
     {
         FaultlessDevice {
             memory: PageMemory::new(alloc),
@@ -29,24 +29,26 @@ impl FaultlessDevice {
 }
 
 impl Device for FaultlessDevice {
-    ghost use Rattle.flash_device.specs.FaultlessDevice.{held_by};
+    ghost use Rattle.flash_device.specs.FaultlessDevice.{memory_of};
 
-    ghost content = { λ d. Some (held_by d).pages };
+    ghost content = { λ d. Some (memory_of d).pages };
 
     ghost calls = { λ _. None };
 
-    ghost prepared = { λ d. (held_by d).shape };
+    ghost prepared = { λ d. (memory_of d).shape };
 
     ghost faults = { λ _. 0 };
 
     fn prepare(&mut self, pages: u32, page_size: u32) -> Result<(), PrepareError>
-        ensures ready { OnOk result ((held_by self.new).shape ≡ Some (record { pages = pages; page_size = page_size })) }
-        ensures shaped { OnOk result (ForSome (Some (held_by self.new).pages) (HasShape (record { pages = pages; page_size = page_size }))) }
-        ensures refused { OnErr result (((held_by self.new).shape ≡ (held_by self.old).shape) × (Some (held_by self.new).pages ≡ Some (held_by self.old).pages)) }
+        ensures ready { OnOk result ((memory_of self.new).shape ≡ Some (shape_with pages page_size)) }
+        ensures shaped { OnOk result (ForSome (Some (memory_of self.new).pages)
+            (HasShape (shape_with pages page_size))) }
+        ensures refused { OnErr result (((memory_of self.new).shape ≡ (memory_of self.old).shape)
+            × (Some (memory_of self.new).pages ≡ Some (memory_of self.old).pages)) }
 
         // It never fails, and where there is memory its pages are zeros then.
         ensures faultless { is_fault result ≡ false }
-        ensures blank { OnOk result (held_by self.new ≡ blank (record { pages = pages; page_size = page_size })) }
+        ensures blank { OnOk result (memory_of self.new ≡ blank (shape_with pages page_size)) }
     {
         match self.memory.prepare(pages, page_size) {
             Ok(()) => Ok(()),

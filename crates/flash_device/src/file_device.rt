@@ -1,3 +1,4 @@
+ghost use Rattle.flash_device.specs.Pages.{shape_with};
 ghost use Rattle.std.specs.Prelude.{◌≡◌, ◌+◌, ◌*◌, ◌≤◌, None, Some, IfOk, length};
 ghost use Rattle.flash_names.specs.Faults.{next_count};
 
@@ -8,7 +9,7 @@ use std::io::ErrorKind;
 use std::os::unix::fs::FileExt;
 use std::rt::Files;
 
-/// A file as a device: its pages stand one behind the other in it. It tells neither its bytes nor its calls. What the
+/// A file as a device: its pages are one after the other in it. It tells neither its bytes nor its calls. What the
 /// file holds rests with the system; nothing outside the file is written. Several threads may each have a handle.
 #[derive(Drop)]
 pub struct FileDevice<F> {
@@ -46,7 +47,7 @@ impl<F: FileExt + OpenFile> FileDevice<F> {
         pages: u32,
         page_size: u32,
     ) -> io::Result<FileDevice<F>>
-        ensures shape { IfOk result (λ device. shape_of device ≡ Some (record { pages = pages; page_size = page_size })) }
+        ensures shape { IfOk result (λ device. shape_of device ≡ Some (shape_with pages page_size)) }
         ensures faults { IfOk result (λ device. faults_of device ≡ 0) }
     {
         let mut device = FileDevice::open(rt, path)?;

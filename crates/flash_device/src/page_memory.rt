@@ -1,6 +1,6 @@
 ghost use Rattle.std.specs.Prelude.{◌≡◌, ℕ, ◌+◌, ◌/◌, ◌<◌, ◌≤◌, [], List, length, take, get_or, replicate, set, IfOk, IsSomeAnd, None, Some, OnOk, OnErr};
 ghost use Rattle.flash_device.specs.Memory.{Held, IsFitted, blank};
-ghost use Rattle.flash_device.specs.Pages.{Within, range_of, put_at, overwritten};
+ghost use Rattle.flash_device.specs.Pages.{shape_with, Within, range_of, put_at, pages_with};
 
 use crate::Shape;
 use flash_names::Blob;
@@ -37,7 +37,7 @@ impl PageMemory {
 
     /// So many pages of so many zero bytes, in place of those before.
     pub fn prepare(&mut self, pages: u32, page_size: u32) -> Result<(), AllocError>
-        ensures ready { OnOk result (self.new ≡ blank (record { pages = pages; page_size = page_size })) }
+        ensures ready { OnOk result (self.new ≡ blank (shape_with pages page_size)) }
         ensures refused { OnErr result (self.new ≡ self.old) }
     {
         self.pages = zero_pages(self.alloc, pages, page_size as usize)?;
@@ -59,7 +59,7 @@ impl PageMemory {
     pub fn write(&mut self, page: u32, offset: u32, bytes: &[u8])
         requires { IsSomeAnd self.old.shape (Within page offset (length bytes.now)) }
         ensures shape { self.new.shape ≡ self.old.shape }
-        ensures pages { self.new.pages ≡ overwritten page offset bytes.now self.old.pages }
+        ensures pages { self.new.pages ≡ pages_with page offset bytes.now self.old.pages }
     {
         put(&mut self.pages[page as usize], offset as usize, bytes);
     }
@@ -68,8 +68,9 @@ impl PageMemory {
     pub fn write_half(&mut self, page: u32, offset: u32, bytes: &[u8])
         requires { IsSomeAnd self.old.shape (Within page offset (length bytes.now)) }
         ensures shape { self.new.shape ≡ self.old.shape }
-        ensures pages { self.new.pages ≡ overwritten page offset (take (length bytes.now / 2) bytes.now) self.old.pages }
-        ensures spoiled { (left : List ℕ) × (length left ≡ length bytes.now) × (self.new.pages ≡ overwritten page offset left self.old.pages) }
+        ensures pages { self.new.pages ≡ pages_with page offset (take (length bytes.now / 2) bytes.now) self.old.pages }
+        ensures spoiled { (left : List ℕ) × (length left ≡ length bytes.now)
+            × (self.new.pages ≡ pages_with page offset left self.old.pages) }
     {
         put_half(&mut self.pages[page as usize], offset as usize, bytes);
     }

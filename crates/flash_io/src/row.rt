@@ -7,7 +7,7 @@ use flash_names::{Blob, Id, Key, Place};
 use std::alloc::{AllocError, Global};
 use std::marker::Model;
 
-/// Where the read of a ticket stands.
+/// Where the read of a ticket is.
 #[derive(Debug, Drop)]
 pub enum State {
     /// It waits in the queue.

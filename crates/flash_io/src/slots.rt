@@ -119,7 +119,8 @@ pub fn asked(rows: &Slab<TicketRow>, slot: usize) -> Option<Asked<'_>>
 
 /// What was submitted for the ticket in the slot, where it is flying and has the id.
 pub fn asked_flying(rows: &Slab<TicketRow>, slot: usize, id: Id) -> Option<Asked<'_>>
-    ensures { MatchOption result (if_flying id (get rows.now slot) ≡ None) (λ asked. IsSomeAnd (if_flying id (get rows.now slot)) (IsAsked asked)) }
+    ensures { MatchOption result (if_flying id (get rows.now slot)
+        ≡ None) (λ asked. IsSomeAnd (if_flying id (get rows.now slot)) (IsAsked asked)) }
 {
     let row = rows.get(slot)?;
     if row.is_flying() && row.has_id(id) {

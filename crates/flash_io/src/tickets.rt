@@ -81,7 +81,8 @@ impl Tickets {
         requires { HasNoOpen self.old id }
         ensures id { IfOk result (λ ticket. ticket.id ≡ id) }
         ensures free { IfOk result (λ ticket. row_of self.old ticket.slot ≡ None) }
-        ensures after { IfOk result (λ ticket. self.new ≡ after (submits ticket.slot (first_row id key.now place head recache)) self.old) }
+        ensures after { IfOk result (λ ticket. self.new
+            ≡ after (submits ticket.slot (first_row id key.now place head recache)) self.old) }
         ensures opened { IfOk result (λ ticket. IsOpenTicket self.new ticket) }
         ensures keeps { KeepsOpen self.old self.new }
         ensures refused { OnErr result (self.new ≡ self.old) }
@@ -175,7 +176,8 @@ impl Tickets {
     /// What was submitted for the queued ticket of the id or, with a slot, for the flying one of that id in it;
     /// `None` where there is no such ticket.
     pub fn asked(&self, id: Id, slot: Option<usize>) -> Option<Asked<'_>>
-        ensures { MatchOption result (asked_row self.now id slot ≡ None) (λ asked. IsSomeAnd (asked_row self.now id slot) (IsAsked asked)) }
+        ensures { MatchOption result (asked_row self.now id slot
+            ≡ None) (λ asked. IsSomeAnd (asked_row self.now id slot) (IsAsked asked)) }
     {
         match slot {
             Some(slot) => slots::asked_flying(&self.rows, slot, id),
@@ -190,7 +192,8 @@ impl Tickets {
     /// for recaching, and it wasn't taken yet.
     pub fn take_spare(&mut self, slot: usize) -> Option<Blob>
         ensures there { is_some result ≡ has_spare (row_of self.old slot) }
-        ensures whole { IfSome result (λ bytes. IsSomeAnd (row_of self.old slot) (λ row. length bytes ≡ row.head.size)) }
+        ensures whole { IfSome result (λ bytes. IsSomeAnd (row_of self.old slot) (λ row. length bytes
+            ≡ row.head.size)) }
         ensures after { self.new ≡ after (takes_spare slot) self.old }
         ensures keeps { KeepsOpen self.old self.new }
         ensures out { (job : ReadJob) → IsOut self.old job → IsOut self.new job }

@@ -2,7 +2,7 @@
 use Rattle.std.specs.Prelude.{ℕ, List, Option, None, Some}
 use Rattle.std.specs.Borrow.{Bor}
 
--- the bytes behind the reference
+-- the bytes after the reference
 abbrev pub lent_bytes : Option (Bor (List ℕ)) → Option (List ℕ)
 lent_bytes None = None
 lent_bytes (Some bytes) = Some bytes.now

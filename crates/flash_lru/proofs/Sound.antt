@@ -105,9 +105,15 @@ room nodes hb wb cb sound =
     let all : List ℕ = walked nodes 0 ++ (walked nodes 1 ++ walked nodes 2) in
     let long : length (walked nodes 0 ++ (walked nodes 1 ++ walked nodes 2)) ≤ length nodes = long_all nodes (walked nodes 0) (walked nodes 1) (walked nodes 2) sound.ring in
     small_sum (length (walked nodes 0 ++ (walked nodes 1 ++ walked nodes 2))) (hb + wb + cb) (omega (arith, sound.short, long))
-    (omega (arith, sound.hot_sum, sound.warm_sum, sound.cold_sum,
-    weight_append nodes (walked nodes 0) (walked nodes 1 ++ walked nodes 2), weight_append nodes (walked nodes 1) (walked nodes 2),
-    weight_below nodes (2 ^ 32 - 1) (walked nodes 0 ++ (walked nodes 1 ++ walked nodes 2)) (λ u. omega (arith, sound.ring.small u))))
+    (omega (
+      arith,
+      sound.hot_sum,
+      sound.warm_sum,
+      sound.cold_sum,
+      weight_append nodes (walked nodes 0) (walked nodes 1 ++ walked nodes 2),
+      weight_append nodes (walked nodes 1) (walked nodes 2),
+      weight_below nodes (2 ^ 32 - 1) (walked nodes 0 ++ (walked nodes 1 ++ walked nodes 2)) (λ u. omega (arith, sound.ring.small u)),
+    ))
 
 -- a card is taken away
 module _ (nodes : List Node) (hb wb cb memory hot_left warm_left cold_left : ℕ) (item : ItemId) (hot warm cold : List ℕ) (links : Links nodes hb wb cb hot warm cold) (some : HasCard (lists_at nodes memory hot warm cold) item) (hot_is : hot_left + in_hot (home_of nodes (item.key + 3)) * size_of nodes (item.key + 3) ≡ hb) (warm_is : warm_left + in_warm (home_of nodes (item.key + 3)) * size_of nodes (item.key + 3) ≡ wb) (cold_is : cold_left + in_cold (home_of nodes (item.key + 3)) * size_of nodes (item.key + 3) ≡ cb) where

@@ -185,7 +185,8 @@ with_prev number prev nodes = slice_set nodes number (record (node_at nodes numb
 -- the two beside the number are linked to each other, and it is unused
 abbrev pub unlinked : ℕ → List Node → List Node
 unlinked x nodes =
-    slice_set (with_prev (next_of nodes x) (prev_of nodes x) (with_next (prev_of nodes x) (next_of nodes x) nodes)) x unused
+    slice_set (with_prev (next_of nodes x) (prev_of nodes x)
+    (with_next (prev_of nodes x) (next_of nodes x) nodes)) x unused
 
 -- the number is linked in after an end
 abbrev pub linked : ℕ → ℕ → ℕ → Home → List Node → List Node

@@ -1,4 +1,4 @@
-use Rattle.flash_device.proofs.Places.{keeps_shape, read_back}
+use Rattle.flash_device.proofs.Ranges.{keeps_shape, read_back}
 use Rattle.flash_device.proofs.laws.stands_there.Goals as goal
 
 pub returns-clause-shape : goal.returns-clause-shape
