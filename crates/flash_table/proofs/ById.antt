@@ -1,5 +1,6 @@
 -- The slot of an id.
 use Rattle.std.proofs.Common.{◌≡◌, ℕ, ◌+◌, true, false, List, length, Option, Some, None, refl, sym, ap, subst, ◌∙◌, arith}
+use Rattle.std.specs.Prelude.{is_some}
 use Rattle.std.specs.Option.{unwrap_or, IsSome}
 use Rattle.std.specs.Cmp.{nat_cmp_total}
 use Rattle.std.specs.Cmp.Lexicographic.{nat_list_cmp_total}
@@ -13,8 +14,9 @@ use Rattle.flash_table.specs.Entries.{vacant, entry_at}
 use Rattle.flash_table.specs.Flat.{flat}
 use Rattle.flash_table.specs.Held.{key_and_item, id_and_key, HasKey, IsSound}
 use Rattle.flash_table.specs.Maps.{items_in, keys_in}
+use Rattle.flash_table.specs.Table.{HasOneId}
 use Rattle.flash_table.proofs.ChainSlots.{index, at_index, has_key}
-use Rattle.flash_table.proofs.Held.{vacant_pair, full_pair, id_is}
+use Rattle.flash_table.proofs.Held.{vacant_pair, full_pair, id_is, pair_is}
 use Rattle.flash_table.proofs.Look.{look, look_at, look_found}
 use Rattle.flash_table.proofs.Maps.{bytes_same, get_items, get_keys}
 
@@ -51,6 +53,22 @@ module _ (store : Classes) (es : List Entry) (sound : IsSound store es) where
       get_items store es key
       ∙ look_at nat_list_cmp_total bytes_same (key_and_item store) vacant (vacant_pair store).0 es k key (entry_at es k).item (full_pair store (entry_at es k) key has).0
       (λ i x is. sound.once i k key x (entry_at es k).item is (full_pair store (entry_at es k) key has).0)
+
+  pub has_item : (id : ℕ) (key : List ℕ) → finite.get (keys_in store es) id ≡ Some key → IsSome (finite.get (items_in store es) key)
+  has_item id key is = let at = slot_found id key is in ap is_some (item_of at.0 key at.1)
+
+  pub has_one_id : (key : List ℕ) (item : ℕ) → finite.get (items_in store es) key ≡ Some item → HasOneId (keys_in store es) key
+  has_one_id key item is =
+      let at = look_found nat_list_cmp_total bytes_same (key_and_item store) vacant (vacant_pair store).0 es key item (sym (get_items store es key) ∙ is) in
+      let has = (pair_is store (entry_at es at.0) key item (sound.right at.0) at.2).0 in
+      record {
+        id = (entry_at es at.0).id.number;
+        named = id_found at.0 key has;
+        only = λ other named.
+            let too = slot_found other key named in
+            let same : too.0 ≡ at.0 = sound.once too.0 at.0 key (entry_at es too.0).item item (full_pair store (entry_at es too.0) key too.1).0 at.2 in
+            sym too.2 ∙ ap (λ (k : ℕ). (entry_at es k).id.number) same;
+      }
 
 -- the slot of the key that an id names has that id
 pub slot_has_id : (store : Classes) (chains : List (List Entry)) (are : AreChains store chains) (id : ℕ) (key : List ℕ) (h i : ℕ) → finite.get (keys_in store (flat chains)) id ≡ Some key → IsSlotOf store chains key h i

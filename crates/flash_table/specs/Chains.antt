@@ -3,7 +3,7 @@ use Rattle.std.specs.Prelude.{◌≡◌, ℕ, ◌<◌, ◌^◌, List, [], length
 use Rattle.flash_keys.specs.Classes.{Classes}
 use Rattle.flash_names.specs.KeyHash.{hash_of}
 use Rattle.flash_table.specs.declared.entry.Entry.{Entry}
-use Rattle.flash_table.specs.Entries.{entry_at, vacants}
+use Rattle.flash_table.specs.Entries.{entry_at, vacants, IsFor}
 use Rattle.flash_table.specs.Flat.{flat}
 use Rattle.flash_table.specs.Held.{key_and_item, HasKey, IsSound}
 use Rattle.flash_table.specs.Home.{home}
@@ -23,8 +23,8 @@ HasEmpty chain = (i : ℕ) × (i < length chain) × ((entry_at chain i).tag ≡ 
 -- each key is in the chain of its home among n homes
 abbrev pub IsHomed : ℕ → Classes → List (List Entry) → Type 0
 IsHomed n store chains =
-    (h i : ℕ) (key : List ℕ) (item : ℕ) → key_and_item store (entry_at (chain_of chains h) i) ≡ Some (key, item)
-    → home n (hash_of key) ≡ h
+    (h i : ℕ) (key : List ℕ) (item : ℕ) →
+    key_and_item store (entry_at (chain_of chains h) i) ≡ Some (key, item) → home n (hash_of key) ≡ h
 
 -- chains whose slots are sound, with each key in the chain of its home; there are 1 to 2^32 - 1 homes
 pub record AreChains (store : Classes) (chains : List (List Entry)) : Type 0 where
@@ -44,6 +44,15 @@ pub record IsSlotOfId (store : Classes) (chains : List (List Entry)) (id h i : �
   pub key : List ℕ
   pub slot : IsSlotOf store chains key h i
   pub is_id : (entry_at (chain_of chains h) i).id.number ≡ id
+
+-- the slot i of a chain is for this key, under this tag
+pub record IsFound (store : Classes) (chain : List Entry) (tag : ℕ) (key : List ℕ) (i : ℕ) : Type 0 where
+  pub inside : i < length chain
+  pub is_for : IsFor store tag key (entry_at chain i)
+
+-- no slot of a chain is for this key, under this tag
+abbrev pub IsNotFound : Classes → List Entry → ℕ → List ℕ → Type 0
+IsNotFound store chain tag key = (i : ℕ) → i < length chain → IsFor store tag key (entry_at chain i) → ⊥
 
 -- the chains after an empty group is added to the chain of a home
 abbrev pub with_group : List (List Entry) → ℕ → List (List Entry)

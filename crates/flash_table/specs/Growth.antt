@@ -24,6 +24,10 @@ abbrev pub going : Classes → ℕ → ℕ → List Entry → ℕ
 going store n h [] = 0
 going store n h (e ∷ rest) = (if goes store n h e then 1 else 0) + going store n h rest
 
+-- how many keys of a home leave it when a home is added
+abbrev pub leaving : Classes → List (List Entry) → ℕ → ℕ
+leaving store chains from = going store (length chains + 1) (length chains) (chain_of chains from)
+
 -- chains to which an empty last one is added, before the home is divided
 pub record IsToDivide (store : Classes) (chains : List (List Entry)) (last from : ℕ) : Type 0 where
   pub many : length chains ≡ last + 1

@@ -1,5 +1,5 @@
 -- What a table is seen as, and what is true of each table.
-use Rattle.std.specs.Prelude.{◌≡◌, ◌≢◌, ℕ, ◌-◌, ◌^◌, ◌<◌, ◌≤◌, List, length, refl, Some, ◌+◌, ◌*◌, nat_le, nat_lt, ◌&&◌, if◌then◌else◌}
+use Rattle.std.specs.Prelude.{◌≡◌, ◌≢◌, ℕ, ◌-◌, ◌^◌, ◌<◌, ◌≤◌, List, length, refl, Some, ◌+◌, ◌*◌, nat_le, nat_lt, ◌&&◌, if◌then◌else◌, IsSome}
 use Rattle.std.specs.Coded.{Coded, code_by, coded×, coded_ℕ, coded_list}
 use Rattle.std.specs.FinMap.{code, len, get, remove}
 use Rattle.flash_keys.specs.Classes.{Classes}
@@ -39,6 +39,16 @@ pub record Takes (old new : TableState) (id item : ℕ) : Type 0 where
   pub named : get old.keys id ≡ Some key
   pub had : get old.map key ≡ Some item
   pub removed : new.map ≡ remove old.map key
+
+-- the key of each id is in the table
+abbrev pub IdsHaveKeys : TableState → Type 0
+IdsHaveKeys t = (id : ℕ) (key : List ℕ) → get t.keys id ≡ Some key → IsSome (get t.map key)
+
+-- one id names this key, and no other does
+pub record HasOneId (keys : Keys) (key : List ℕ) : Type 0 where
+  pub id : ℕ
+  pub named : get keys id ≡ Some key
+  pub only : (other : ℕ) → get keys other ≡ Some key → other ≡ id
 
 -- the state of these parts
 abbrev pub state_of : Classes → List (List Entry) → ℕ → TableState

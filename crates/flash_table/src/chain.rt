@@ -1,5 +1,6 @@
-ghost use Rattle.std.specs.Prelude.{◌≡◌, ◌≢◌, ◌<◌, ◌≤◌, ◌*◌, ◌++◌, ℕ, [], List, length, slice_set, OnOk, OnErr, IfSome, IfNone};
-ghost use Rattle.flash_table.specs.Entries.{entry_at, vacants, IsFor};
+ghost use Rattle.std.specs.Prelude.{◌≡◌, ◌≢◌, ◌<◌, ◌*◌, ◌++◌, ℕ, [], length, slice_set, OnOk, OnErr, IfSome, IfNone};
+ghost use Rattle.flash_table.specs.Chains.{IsFound, IsNotFound};
+ghost use Rattle.flash_table.specs.Entries.{entry_at, vacants};
 
 use crate::entry::Entry;
 use crate::group::Group;
@@ -87,8 +88,8 @@ impl Chain {
 
     // The first slot with this tag whose id names this key, where there is one.
     pub fn slot_of(&self, keys: &KeyStore, tag: u8, key: &[u8]) -> Option<usize>
-        ensures found { IfSome result (λ i. (i < length self.now) × IsFor keys.now tag key.now (entry_at self.now i)) }
-        ensures none { IfNone result ((i : ℕ) → i < length self.now → IsFor keys.now tag key.now (entry_at self.now i) → ⊥) }
+        ensures found { IfSome result (IsFound keys.now self.now tag key.now) }
+        ensures none { IfNone result (IsNotFound keys.now self.now tag key.now) }
     {
         'chain: for (number, group) in self.groups.iter().enumerate() {
             if let Some(slot) = slot_in_group(group, keys, tag, key) {

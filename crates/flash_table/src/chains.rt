@@ -5,7 +5,7 @@ ghost use Rattle.std.specs.FinMap as finite;
 ghost use Rattle.flash_table.specs.Chains.{chain_of, with_entry, HasEmpty, AreChains, IsSlotOf, IsSlotOfId, RoomMade, with_group};
 ghost use Rattle.flash_table.specs.Entries.{entry_at, vacant as the_vacant};
 ghost use Rattle.flash_table.specs.Flat.{flat};
-ghost use Rattle.flash_table.specs.Growth.{going};
+ghost use Rattle.flash_table.specs.Growth.{leaving};
 ghost use Rattle.flash_table.specs.Home.{power as the_power};
 ghost use Rattle.flash_table.specs.Maps.{items_in, keys_in};
 
@@ -143,7 +143,7 @@ pub fn count_leaving(keys: &KeyStore, chains: &Vec<Chain>, power: u64, from: usi
     requires from { from < length chains.now.items }
     requires few { length chains.now.items + 1 < 2 ^ 32 }
     requires power { power ≡ the_power (length chains.now.items + 1) }
-    ensures { result ≡ going keys.now (length chains.now.items + 1) (length chains.now.items) (chain_of chains.now.items from) }
+    ensures { result ≡ leaving keys.now chains.now.items from }
 {
     let homes = chains.len() as u64;
     let chain = &chains[from];

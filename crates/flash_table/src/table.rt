@@ -1,7 +1,7 @@
-ghost use Rattle.std.specs.Prelude.{◌≡◌, ◌≢◌, ◌+◌, ◌<◌, ◌≤◌, ◌^◌, ℕ, OnOk, OnErr, IfOk, Some, None, IsSome, IfSome, IfNone};
+ghost use Rattle.std.specs.Prelude.{◌≡◌, ◌≢◌, ◌+◌, ◌<◌, ◌≤◌, ◌^◌, ℕ, OnOk, OnErr, IfOk, Some, None, IsSome, IfSome, IfNone, List};
 ghost use Rattle.std.specs.Option.{option_map};
 ghost use Rattle.std.specs.FinMap as finite;
-ghost use Rattle.flash_table.specs.Table.{TableState, Forgets, Takes, homes_after};
+ghost use Rattle.flash_table.specs.Table.{TableState, Forgets, Takes, HasOneId, IdsHaveKeys, homes_after};
 
 use crate::chain::Chain;
 use crate::chains::{
@@ -214,6 +214,14 @@ impl Table {
             Some(bytes) => bytes,
             None => unreachable!(),
         }
+    }
+
+    /// The key of each id is in the table, and each key of the table has exactly one id. It does nothing.
+    pub fn ids_match(&self)
+        ensures each { IdsHaveKeys self.now }
+        ensures one { (key : List ℕ) (item : ℕ) → finite.get self.now.map key ≡ Some item → HasOneId self.now.keys key }
+    {
+        let _ = &self.power;
     }
 
     /// The number of homes.

@@ -9,11 +9,12 @@ returns-in-Some-clause-found c =
     let gs = c.deref-group-items.result.now in
     let es = c.args.self.now in
     let s = c.in-Some.slot in
-    let found = c.in-Some.ensures.found in (
-      slot_inside kept gs es c.deref-group-items.ensures.value c.self.view_is c.self.invariant c.chain.number c.group-item.result c.group-item.is c.chain-test.true s found.0,
-      subst (IsFor c.args.keys.now c.args.tag c.args.key.now)
-          (sym (slot_is kept gs es c.deref-group-items.ensures.value c.self.view_is c.self.invariant c.chain.number c.group-item.result c.group-item.is c.chain-test.true s found.0)) found.1,
-    )
+    let found = c.in-Some.ensures.found in
+    record {
+      inside = slot_inside kept gs es c.deref-group-items.ensures.value c.self.view_is c.self.invariant c.chain.number c.group-item.result c.group-item.is c.chain-test.true s found.0;
+      is_for = subst (IsFor c.args.keys.now c.args.tag c.args.key.now)
+          (sym (slot_is kept gs es c.deref-group-items.ensures.value c.self.view_is c.self.invariant c.chain.number c.group-item.result c.group-item.is c.chain-test.true s found.0)) found.1;
+    }
 
 pub chain-preserved : goal.chain-preserved
 chain-preserved c =
