@@ -21,3 +21,6 @@ mod search;
 mod table;
 
 pub use table::Table;
+
+#[cfg(test)]
+mod tests;
