@@ -1,5 +1,5 @@
 -- The slot of an id.
-use Rattle.std.proofs.Common.{◌≡◌, ℕ, ◌+◌, true, false, List, length, Option, Some, None, refl, sym, ap, subst, ◌∙◌, arith}
+use Rattle.std.proofs.Common.{◌≡◌, ℕ, true, false, List, Option, Some, None, refl, sym, ap, subst, ◌∙◌}
 use Rattle.std.specs.Prelude.{is_some}
 use Rattle.std.specs.Option.{unwrap_or, IsSome}
 use Rattle.std.specs.Cmp.{nat_cmp_total}
@@ -17,7 +17,7 @@ use Rattle.flash_table.specs.Maps.{items_in, keys_in}
 use Rattle.flash_table.specs.Table.{HasOneId}
 use Rattle.flash_table.proofs.ChainSlots.{index, at_index, has_key}
 use Rattle.flash_table.proofs.Held.{vacant_pair, full_pair, id_is, pair_is}
-use Rattle.flash_table.proofs.Look.{look, look_at, look_found}
+use Rattle.flash_table.proofs.Look.{look_at, look_found}
 use Rattle.flash_table.proofs.Maps.{bytes_same, get_items, get_keys}
 
 -- what is there is something

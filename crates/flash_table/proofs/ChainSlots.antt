@@ -1,5 +1,5 @@
 -- The slots of chains, as one list and by home.
-use Rattle.std.proofs.Common.{◌≡◌, ◌≢◌, ℕ, zero, suc, ◌+◌, ◌<◌, ◌≤◌, List, [], ◌∷◌, length, get_or, set, length-set, ◌⊎◌, inl, inr, Option, Some, None, refl, sym, ap, subst, ◌∙◌, arith}
+use Rattle.std.proofs.Common.{◌≡◌, ◌≢◌, ℕ, zero, suc, ◌+◌, ◌<◌, ◌≤◌, List, [], ◌∷◌, length, get_or, set, length-set, ◌⊎◌, inl, inr, Some, None, refl, sym, ap, subst, ◌∙◌, arith}
 use Rattle.std.specs.Cmp.Lexicographic.{nat_list_cmp_total}
 use Rattle.std.specs.FinMap as finite
 use Rattle.std.proofs.lemmas.List.{get_or-set_other}
@@ -7,15 +7,15 @@ use Rattle.std.proofs.lemmas.Grind.{get_or-set_at}
 use Rattle.flash_keys.specs.Classes.{Classes}
 use Rattle.flash_names.specs.KeyHash.{hash_of}
 use Rattle.flash_table.specs.declared.entry.Entry.{Entry}
-use Rattle.flash_table.specs.Chains.{chain_of, with_entry, HasEmpty, AreChains, IsSlotOf, IsHomed}
+use Rattle.flash_table.specs.Chains.{chain_of, with_entry, HasEmpty, AreChains, IsSlotOf}
 use Rattle.flash_table.specs.Entries.{vacant, entry_at, IsFor}
 use Rattle.flash_table.specs.Flat.{flat}
-use Rattle.flash_table.specs.Held.{key_and_item, id_and_key, HasKey, IsRight, IsSound}
+use Rattle.flash_table.specs.Held.{key_and_item, HasKey}
 use Rattle.flash_table.specs.Home.{home, tag}
-use Rattle.flash_table.specs.Maps.{items_in, keys_in}
+use Rattle.flash_table.specs.Maps.{items_in}
 use Rattle.flash_table.proofs.Flat.{either, offset, flat_at, flat_set, flat_inside, located}
 use Rattle.flash_table.proofs.Held.{equal_or_not, vacant_pair, full_pair, pair_is, updated}
-use Rattle.flash_table.proofs.Look.{look, look_nowhere, look_at}
+use Rattle.flash_table.proofs.Look.{look_nowhere, look_at}
 use Rattle.flash_table.proofs.Maps.{bytes_same, get_items}
 
 pub past : {X : Type 0} (xs : List X) (k : ℕ) (d : X) → length xs ≤ k → get_or xs k d ≡ d

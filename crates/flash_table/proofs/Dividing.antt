@@ -1,5 +1,5 @@
 -- Chains in the midst of a division.
-use Rattle.std.proofs.Common.{◌≡◌, ◌≢◌, ℕ, zero, suc, ◌+◌, ◌-◌, ◌<◌, ◌≤◌, ◌^◌, Bool, true, false, cond, nat_eq, List, [], ◌∷◌, length, get_or, set, drop, length-set, ◌⊎◌, inl, inr, Option, Some, None, refl, sym, ap, subst, ◌∙◌, arith}
+use Rattle.std.proofs.Common.{◌≡◌, ◌≢◌, ℕ, zero, suc, ◌+◌, ◌<◌, ◌≤◌, Bool, true, false, cond, List, [], ◌∷◌, length, set, drop, length-set, ◌⊎◌, inl, inr, Option, Some, None, refl, sym, ap, subst, ◌∙◌, arith}
 use Rattle.std.proofs.lemmas.Bool.{eqb-true}
 use Rattle.std.proofs.Common.{eq-eqb}
 use Rattle.std.specs.Option.{unwrap_or}
@@ -8,12 +8,12 @@ use Rattle.std.proofs.lemmas.Grind.{get_or-set_at}
 use Rattle.flash_keys.specs.Classes.{Classes}
 use Rattle.flash_names.specs.KeyHash.{hash_of}
 use Rattle.flash_table.specs.declared.entry.Entry.{Entry}
-use Rattle.flash_table.specs.Chains.{chain_of, with_entry, HasEmpty, AreChains, IsHomed}
+use Rattle.flash_table.specs.Chains.{chain_of, with_entry, HasEmpty}
 use Rattle.flash_table.specs.Entries.{vacant, entry_at}
 use Rattle.flash_table.specs.Flat.{flat}
 use Rattle.flash_table.specs.Growth.{pair_goes, goes, going, IsToDivide, IsDivided}
 use Rattle.flash_table.specs.Held.{key_and_item, HasKey, IsSound}
-use Rattle.flash_table.specs.Home.{home, split_home, power}
+use Rattle.flash_table.specs.Home.{home, split_home}
 use Rattle.flash_table.specs.Maps.{items_in, keys_in}
 use Rattle.flash_table.proofs.ChainSlots.{past, slots_with, still_empty, empty_now}
 use Rattle.flash_table.proofs.Flat.{offset, offset_set, flat_at, flat_set, flat_inside}

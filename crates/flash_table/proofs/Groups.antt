@@ -1,5 +1,5 @@
 -- The entries of a group, whose tags, ids and items lie apart, and the mask of a tag.
-use Rattle.std.proofs.Common.{◌≡◌, ◌≢◌, ℕ, zero, suc, ◌+◌, ◌*◌, ◌/◌, ◌%◌, ◌^◌, ◌<◌, ◌≤◌, cond, nat_eq, List, [], ◌∷◌, length, get_or, set, ◌⊎◌, inl, inr, refl, sym, ap, ◌∙◌, arith, w16}
+use Rattle.std.proofs.Common.{◌≡◌, ℕ, zero, suc, ◌+◌, ◌*◌, ◌/◌, ◌%◌, ◌^◌, ◌<◌, cond, nat_eq, List, [], ◌∷◌, length, get_or, set, ◌⊎◌, inl, inr, refl, sym, ap, ◌∙◌, arith, w16}
 use Rattle.std.specs.Int.{bit_at}
 use Rattle.std.specs.Int.Count.{count_trailing_zeros, trailing_of_zero}
 use Rattle.std.proofs.lemmas.Bool.Decides.{nat_tests}
@@ -10,7 +10,7 @@ use Rattle.flash_keys.specs.declared.key_id.KeyId.{KeyId}
 use Rattle.flash_table.specs.declared.entry.Entry.{Entry}
 use Rattle.flash_table.specs.Entries.{vacant, entry_at, joined}
 use Rattle.flash_table.specs.Flat.{flat, AreWhole}
-use Rattle.flash_table.proofs.Flat.{offset, flat_at, flat_set, flat_inside, whole_offset, whole_at, whole_length}
+use Rattle.flash_table.proofs.Flat.{offset, flat_at, flat_set, whole_offset, whole_at, whole_length}
 
 pub joined_at : (tags : List ℕ) (ids : List KeyId) (items : List ℕ) (i : ℕ) → i < length tags → length ids ≡ length tags → length items ≡ length tags
     → entry_at (joined tags ids items) i ≡ record { tag = get_or tags i 0; id = get_or ids i (record { number = 0 }); item = get_or items i 0 }

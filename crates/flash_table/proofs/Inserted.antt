@@ -1,20 +1,19 @@
 -- A key is put into an empty slot, under an id that named nothing before.
-use Rattle.std.proofs.Common.{◌≡◌, ◌≢◌, ℕ, ◌<◌, cond, List, length, set, ◌⊎◌, inl, inr, Option, Some, None, refl, sym, ap, subst, ◌∙◌, arith}
+use Rattle.std.proofs.Common.{◌≡◌, ℕ, ◌<◌, cond, List, length, set, ◌⊎◌, inl, inr, Option, Some, None, sym, ap, subst, ◌∙◌}
 use Rattle.std.specs.Option.{unwrap_or}
 use Rattle.std.specs.Ordering.{nat_cmp, eq_by_cmp}
 use Rattle.std.specs.Cmp.{nat_cmp_total}
 use Rattle.std.specs.Cmp.Lexicographic.{slice_cmp, nat_list_cmp_total}
 use Rattle.std.specs.FinMap as finite
-use Rattle.std.specs.FinMap.{nat_cmp-IsAntisymmetric, slice_cmp-IsAntisymmetric, IsAntisymmetric}
+use Rattle.std.specs.FinMap.{nat_cmp-IsAntisymmetric}
 use Rattle.flash_keys.specs.Classes.{Classes}
 use Rattle.flash_keys.specs.Names.{named, NamesOnly}
-use Rattle.flash_names.specs.KeyHash.{hash_of}
 use Rattle.flash_table.specs.declared.entry.Entry.{Entry}
 use Rattle.flash_table.specs.Entries.{vacant, entry_at}
 use Rattle.flash_table.specs.Held.{key_and_item, id_and_key, HasKey, IsRight, IsSound}
 use Rattle.flash_table.specs.Maps.{items_in, keys_in}
-use Rattle.flash_table.proofs.Held.{empty_pair, vacant_pair, full_pair, pair_is, id_is, same_pair, updated}
-use Rattle.flash_table.proofs.Look.{look, nowhere_look, look_put, look_same}
+use Rattle.flash_table.proofs.Held.{empty_pair, vacant_pair, full_pair, id_is, same_pair, updated}
+use Rattle.flash_table.proofs.Look.{nowhere_look, look_put, look_same}
 use Rattle.flash_table.proofs.Maps.{bytes_same, get_items, get_keys}
 
 module _ (store next : Classes) (es : List Entry) (sound : IsSound store es) (e : Entry) (key : List ℕ) (k : ℕ)

@@ -1,5 +1,5 @@
 -- A loop over the groups of a chain, which the chain sees as one list.
-use Rattle.std.proofs.Common.{◌≡◌, ℕ, ◌+◌, ◌-◌, ◌*◌, ◌<◌, ◌≤◌, List, [], length, get_or, ◌⊎◌, inl, inr, sym, ap, subst, ◌∙◌, arith}
+use Rattle.std.proofs.Common.{◌≡◌, ℕ, ◌+◌, ◌-◌, ◌*◌, ◌<◌, ◌≤◌, List, [], length, get_or, inl, inr, sym, ap, subst, ◌∙◌, arith}
 use Rattle.flash_table.specs.declared.entry.Entry.{Entry}
 use Rattle.flash_table.specs.Entries.{entry_at}
 use Rattle.flash_table.specs.Flat.{flat, AreWhole}

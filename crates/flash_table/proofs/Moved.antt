@@ -1,5 +1,5 @@
 -- An entry goes from its slot to an empty one.
-use Rattle.std.proofs.Common.{◌≡◌, ◌≢◌, ℕ, ◌<◌, List, length, set, length-set, ◌⊎◌, inl, inr, Option, Some, None, refl, sym, ap, subst, ◌∙◌, arith}
+use Rattle.std.proofs.Common.{◌≡◌, ◌≢◌, ℕ, ◌<◌, List, length, set, length-set, ◌⊎◌, inl, inr, Option, Some, None, sym, ap, subst, ◌∙◌, arith}
 use Rattle.std.specs.Option.{unwrap_or}
 use Rattle.std.specs.Cmp.{nat_cmp_total}
 use Rattle.std.specs.Cmp.Lexicographic.{nat_list_cmp_total}
@@ -12,7 +12,7 @@ use Rattle.flash_table.specs.Entries.{vacant, entry_at}
 use Rattle.flash_table.specs.Held.{key_and_item, id_and_key, HasKey, IsRight, IsSound}
 use Rattle.flash_table.specs.Maps.{items_in, keys_in}
 use Rattle.flash_table.proofs.Held.{empty_pair, vacant_pair, full_pair, id_is, updated}
-use Rattle.flash_table.proofs.Look.{look, look_moved}
+use Rattle.flash_table.proofs.Look.{look_moved}
 use Rattle.flash_table.proofs.Maps.{bytes_same, get_items, get_keys}
 
 module _ (store : Classes) (es : List Entry) (sound : IsSound store es) (k l : ℕ) (key : List ℕ) (k_inside : k < length es) (inside : l < length es)

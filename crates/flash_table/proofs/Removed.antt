@@ -1,5 +1,5 @@
 -- A slot with a key is emptied, and then the key's id names nothing.
-use Rattle.std.proofs.Common.{◌≡◌, ◌≢◌, ℕ, ◌<◌, cond, List, length, set, ◌⊎◌, inl, inr, Option, Some, None, refl, sym, ap, subst, ◌∙◌, arith}
+use Rattle.std.proofs.Common.{◌≡◌, ◌≢◌, ℕ, ◌<◌, cond, List, length, set, ◌⊎◌, inl, inr, Option, Some, None, sym, ap, subst, ◌∙◌}
 use Rattle.std.specs.Option.{unwrap_or}
 use Rattle.std.specs.Ordering.{nat_cmp, eq_by_cmp}
 use Rattle.std.specs.Cmp.{nat_cmp_total}
@@ -13,7 +13,7 @@ use Rattle.flash_table.specs.Entries.{vacant, entry_at}
 use Rattle.flash_table.specs.Held.{key_and_item, id_and_key, HasKey, IsRight, IsSound}
 use Rattle.flash_table.specs.Maps.{items_in, keys_in}
 use Rattle.flash_table.proofs.Held.{empty_pair, vacant_pair, full_pair, id_is, same_pair, updated}
-use Rattle.flash_table.proofs.Look.{look, look_clear, look_same}
+use Rattle.flash_table.proofs.Look.{look_clear, look_same}
 use Rattle.flash_table.proofs.Maps.{bytes_same, get_items, get_keys}
 
 -- the key of an entry is one

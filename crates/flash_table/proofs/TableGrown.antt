@@ -1,5 +1,5 @@
 -- A table after a home is added.
-use Rattle.std.proofs.Common.{◌≡◌, ◌≢◌, ℕ, zero, suc, ◌+◌, ◌*◌, ◌/◌, ◌-◌, ◌^◌, ◌<◌, ◌≤◌, List, [], ◌∷◌, ◌++◌, length, get_or, length-append, ◌⊎◌, inl, inr, Some, refl, sym, ap, subst, ◌∙◌, arith}
+use Rattle.std.proofs.Common.{◌≡◌, ℕ, zero, suc, ◌+◌, ◌<◌, ◌≤◌, List, [], ◌∷◌, ◌++◌, length, length-append, inl, inr, refl, sym, ap, subst, ◌∙◌, arith}
 use Rattle.std.specs.Cmp.{nat_cmp_total}
 use Rattle.std.specs.Cmp.Lexicographic.{nat_list_cmp_total}
 use Rattle.std.specs.FinMap as finite
@@ -8,15 +8,14 @@ use Rattle.std.proofs.Math.ListN.{get_or-append}
 use Rattle.std.proofs.Math.Seq.{get_or-append_seam}
 use Rattle.flash_keys.specs.Classes.{Classes}
 use Rattle.flash_table.specs.declared.entry.Entry.{Entry}
-use Rattle.flash_table.specs.Chains.{chain_of, HasEmpty, AreChains}
+use Rattle.flash_table.specs.Chains.{chain_of, HasEmpty}
 use Rattle.flash_table.specs.Entries.{vacant, entry_at}
 use Rattle.flash_table.specs.Flat.{flat}
 use Rattle.flash_table.specs.Growth.{going, IsToDivide, IsDivided}
-use Rattle.flash_table.specs.Held.{key_and_item, id_and_key, IsRight, IsSound}
+use Rattle.flash_table.specs.Held.{key_and_item, id_and_key, IsRight}
 use Rattle.flash_table.specs.Home.{split_home, power as power_of}
 use Rattle.flash_table.specs.Maps.{items_in, keys_in}
-use Rattle.flash_table.specs.Table.{IsTable, IsReady}
-use Rattle.flash_table.proofs.ChainSlots.{past}
+use Rattle.flash_table.specs.Table.{IsTable}
 use Rattle.flash_table.proofs.Dividing.{from_inside}
 use Rattle.flash_table.proofs.Flat.{flat_push}
 use Rattle.flash_table.proofs.Held.{equal_or_not, vacant_pair}

@@ -1,5 +1,5 @@
 -- A table after a key is inserted.
-use Rattle.std.proofs.Common.{◌≡◌, ◌≢◌, ℕ, ◌+◌, ◌-◌, ◌<◌, ◌≤◌, Bool, cond, List, length, set, length-set, ◌⊎◌, inl, inr, Option, Some, None, refl, sym, ap, subst, ◌∙◌, arith}
+use Rattle.std.proofs.Common.{◌≡◌, ℕ, ◌+◌, ◌-◌, ◌<◌, ◌≤◌, cond, List, length, set, length-set, inl, inr, Option, Some, None, sym, ap, subst, ◌∙◌, arith}
 use Rattle.std.specs.Prelude.{is_some}
 use Rattle.std.specs.Option.{unwrap_or}
 use Rattle.std.specs.Cmp.{nat_cmp_total}
@@ -16,7 +16,7 @@ use Rattle.flash_table.specs.Flat.{flat}
 use Rattle.flash_table.specs.Held.{key_and_item, id_and_key, HasKey, IsSound}
 use Rattle.flash_table.specs.Home.{home, power as power_of}
 use Rattle.flash_table.specs.Maps.{items_in, keys_in}
-use Rattle.flash_table.specs.Table.{IsTable, IsReady}
+use Rattle.flash_table.specs.Table.{IsTable}
 use Rattle.flash_table.proofs.ChainSlots.{in_flat, slots_with, still_empty}
 use Rattle.flash_table.proofs.Flat.{offset, flat_at, flat_set, flat_inside}
 use Rattle.flash_table.proofs.Held.{equal_or_not, vacant_pair, full_pair, id_is}

@@ -4,11 +4,10 @@ use Rattle.std.specs.Ordering.{nat_cmp}
 use Rattle.std.specs.Cmp.Lexicographic.{slice_cmp}
 use Rattle.std.specs.FinMap as finite
 use Rattle.flash_keys.specs.Classes.{Classes}
-use Rattle.flash_table.specs.declared.entry.Entry.{Entry}
-use Rattle.flash_table.specs.Chains.{chain_of, IsHomed}
-use Rattle.flash_table.specs.Entries.{vacant, entry_at}
+use Rattle.flash_table.specs.Chains.{chain_of}
+use Rattle.flash_table.specs.Entries.{entry_at}
 use Rattle.flash_table.specs.Held.{key_and_item, IsSound}
-use Rattle.flash_table.specs.Home.{power, home}
+use Rattle.flash_table.specs.Home.{power}
 use Rattle.flash_table.specs.Maps.{items_in, keys_in}
 use Rattle.flash_table.specs.Table.{IsTable}
 use Rattle.flash_table.proofs.Held.{vacant_pair}

@@ -1,5 +1,5 @@
 -- A table after memory is taken for one key more.
-use Rattle.std.proofs.Common.{◌≡◌, ◌≢◌, ℕ, ◌-◌, ◌^◌, ◌<◌, ◌≤◌, List, ◌++◌, length, ◌⊎◌, inl, inr, refl, sym, ap, subst, ◌∙◌, arith}
+use Rattle.std.proofs.Common.{◌≡◌, ◌≢◌, ℕ, ◌-◌, ◌^◌, ◌<◌, ◌≤◌, List, ◌++◌, length, inl, inr, refl, sym, ap, subst, ◌∙◌, arith}
 use Rattle.std.specs.Cmp.{nat_cmp_total}
 use Rattle.std.specs.Cmp.Lexicographic.{nat_list_cmp_total}
 use Rattle.std.specs.FinMap as finite
@@ -11,7 +11,7 @@ use Rattle.flash_table.specs.declared.entry.Entry.{Entry}
 use Rattle.flash_table.specs.Chains.{chain_of, with_group, RoomMade, HasEmpty, AreChains}
 use Rattle.flash_table.specs.Entries.{vacant, vacants, entry_at}
 use Rattle.flash_table.specs.Flat.{flat}
-use Rattle.flash_table.specs.Held.{key_and_item, id_and_key, HasKey, IsRight, IsSound}
+use Rattle.flash_table.specs.Held.{key_and_item, id_and_key, IsRight, IsSound}
 use Rattle.flash_table.specs.Home.{power as power_of}
 use Rattle.flash_table.specs.Maps.{items_in, keys_in}
 use Rattle.flash_table.specs.Table.{IsTable, IsReady}

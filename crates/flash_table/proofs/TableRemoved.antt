@@ -1,5 +1,5 @@
 -- A table after a key is taken away.
-use Rattle.std.proofs.Common.{◌≡◌, ◌≢◌, ℕ, ◌+◌, ◌-◌, ◌<◌, ◌≤◌, Bool, cond, List, length, set, length-set, ◌⊎◌, inl, inr, Option, Some, None, refl, sym, ap, subst, ◌∙◌, arith}
+use Rattle.std.proofs.Common.{◌≡◌, ℕ, ◌-◌, ◌<◌, ◌≤◌, cond, List, length, set, length-set, inl, inr, Option, Some, None, sym, ap, subst, ◌∙◌, arith}
 use Rattle.std.specs.Prelude.{is_some}
 use Rattle.std.specs.Cmp.Lexicographic.{slice_cmp, nat_list_cmp_total}
 use Rattle.std.specs.Ordering.{nat_cmp}
@@ -9,7 +9,7 @@ use Rattle.flash_keys.specs.Names.{named, NamesOnly}
 use Rattle.flash_keys.specs.Room.{HasRoom}
 use Rattle.flash_names.specs.KeyHash.{hash_of}
 use Rattle.flash_table.specs.declared.entry.Entry.{Entry}
-use Rattle.flash_table.specs.Chains.{chain_of, with_entry, HasEmpty, AreChains, IsHomed, IsSlotOf}
+use Rattle.flash_table.specs.Chains.{chain_of, with_entry, HasEmpty, IsHomed, IsSlotOf}
 use Rattle.flash_table.specs.Entries.{vacant, entry_at}
 use Rattle.flash_table.specs.Flat.{flat}
 use Rattle.flash_table.specs.Held.{key_and_item, HasKey, IsSound}

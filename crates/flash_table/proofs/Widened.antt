@@ -1,5 +1,5 @@
 -- An empty group more in a chain.
-use Rattle.std.proofs.Common.{◌≡◌, ◌≢◌, ℕ, zero, suc, ◌+◌, ◌<◌, ◌≤◌, List, [], ◌∷◌, ◌++◌, length, get_or, set, length-set, length-append, ◌⊎◌, inl, inr, Option, Some, None, refl, sym, ap, subst, ◌∙◌, arith}
+use Rattle.std.proofs.Common.{◌≡◌, ℕ, zero, suc, ◌+◌, ◌<◌, List, [], ◌∷◌, ◌++◌, length, set, length-set, length-append, inl, inr, Option, Some, None, refl, sym, ap, subst, ◌∙◌, arith}
 use Rattle.std.specs.Cmp.{IsTotalOrder, nat_cmp_total}
 use Rattle.std.specs.Cmp.Lexicographic.{nat_list_cmp_total}
 use Rattle.std.specs.FinMap as finite
@@ -12,13 +12,13 @@ use Rattle.flash_table.specs.declared.entry.Entry.{Entry}
 use Rattle.flash_table.specs.Chains.{chain_of, HasEmpty, AreChains, IsHomed}
 use Rattle.flash_table.specs.Entries.{vacant, vacants, entry_at}
 use Rattle.flash_table.specs.Flat.{flat}
-use Rattle.flash_table.specs.Held.{key_and_item, id_and_key, IsRight, IsSound}
+use Rattle.flash_table.specs.Held.{key_and_item, id_and_key, IsRight}
 use Rattle.flash_table.specs.Home.{home}
 use Rattle.flash_table.specs.Maps.{items_in, keys_in}
 use Rattle.flash_table.proofs.ChainSlots.{past, in_flat, chain_set}
-use Rattle.flash_table.proofs.Flat.{either, offset, flat_at, located, IsWhere}
+use Rattle.flash_table.proofs.Flat.{either, offset, flat_at, located}
 use Rattle.flash_table.proofs.Held.{vacant_pair}
-use Rattle.flash_table.proofs.Look.{look, found, look_blank}
+use Rattle.flash_table.proofs.Look.{look, found}
 use Rattle.flash_table.proofs.Maps.{bytes_same, get_items, get_keys}
 
 -- empty slots behind others change no entry

@@ -1,5 +1,5 @@
 -- Lists behind one another.
-use Rattle.std.specs.Prelude.{◌≡◌, ℕ, List, [], ◌∷◌, ◌++◌, length}
+use Rattle.std.specs.Prelude.{◌≡◌, List, [], ◌∷◌, ◌++◌, length}
 
 -- the elements of the lists, one list behind the other
 abbrev pub flat : {X : Type 0} → List (List X) → List X

@@ -1,5 +1,5 @@
 -- How a home is divided: its keys that have the last home among one home more go there.
-use Rattle.std.specs.Prelude.{◌≡◌, ◌≢◌, ℕ, ◌+◌, ◌-◌, ◌<◌, ◌^◌, Bool, false, nat_eq, List, [], ◌∷◌, length, Option, None, Some, if◌then◌else◌}
+use Rattle.std.specs.Prelude.{◌≡◌, ◌≢◌, ℕ, ◌+◌, ◌<◌, ◌^◌, Bool, false, nat_eq, List, [], ◌∷◌, length, Option, None, Some, if◌then◌else◌}
 use Rattle.flash_keys.specs.Classes.{Classes}
 use Rattle.flash_names.specs.KeyHash.{hash_of}
 use Rattle.flash_table.specs.declared.entry.Entry.{Entry}

@@ -1,7 +1,7 @@
-use Rattle.std.proofs.Common.{◌≡◌, Some, ap, sym, subst, ◌∙◌}
+use Rattle.std.proofs.Common.{◌≡◌, Some, sym, ◌∙◌}
 use Rattle.std.specs.FinMap as finite
 use Rattle.flash_table.specs.Flat.{flat}
-use Rattle.flash_table.specs.Maps.{items_in, keys_in}
+use Rattle.flash_table.specs.Maps.{keys_in}
 use Rattle.flash_table.proofs.ById.{some_is, named_by, slot_found, item_of, slot_has_id}
 use Rattle.flash_table.proofs.chains.slot_of_id.Goals as goal
 

@@ -1,4 +1,4 @@
-use Rattle.std.proofs.Common.{◌≡◌, ◌+◌, ℕ, List, length, ap, sym, subst, ◌∙◌, arith}
+use Rattle.std.proofs.Common.{◌≡◌, ◌+◌, ℕ, List, ap, sym, subst, ◌∙◌, arith}
 use Rattle.flash_table.specs.declared.entry.Entry.{Entry}
 use Rattle.flash_table.specs.Chains.{chain_of, with_entry}
 use Rattle.flash_table.specs.Entries.{entry_at, vacant}

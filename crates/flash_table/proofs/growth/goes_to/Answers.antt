@@ -1,6 +1,5 @@
-use Rattle.std.proofs.Common.{◌≡◌, nat_eq, List, ℕ, ap, sym, ◌∙◌}
+use Rattle.std.proofs.Common.{nat_eq, ℕ, ap, sym, ◌∙◌}
 use Rattle.flash_table.specs.Growth.{pair_goes, goes}
-use Rattle.flash_table.specs.Held.{key_and_item}
 use Rattle.flash_table.specs.Home.{home}
 use Rattle.flash_table.proofs.Held.{empty_pair, unnamed_pair, named_pair}
 use Rattle.flash_table.proofs.growth.goes_to.Goals as goal

@@ -1,6 +1,5 @@
 use Rattle.std.proofs.Common.{◌<◌, ◌/◌, arith}
 use Rattle.std.proofs.Math.Nat.{mod-lt}
-use Rattle.flash_table.specs.Home.{power}
 use Rattle.flash_table.proofs.Homes.{power_fits}
 use Rattle.flash_table.proofs.home.home_of.Goals as goal
 

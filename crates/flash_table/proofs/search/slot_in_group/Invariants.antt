@@ -1,4 +1,4 @@
-use Rattle.std.proofs.Common.{◌≡◌, ◌<◌, ℕ}
+use Rattle.std.proofs.Common.{◌<◌, ℕ}
 use Rattle.flash_table.specs.Entries.{entry_at, IsFor}
 use Rattle.flash_table.proofs.search.slot_in_group.Given as goal
 

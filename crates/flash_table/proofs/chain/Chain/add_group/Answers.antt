@@ -1,6 +1,5 @@
-use Rattle.std.proofs.Common.{ap, sym, ◌∙◌, ◌++◌, ◌∷◌, [], length, refl, arith}
-use Rattle.flash_table.specs.Flat.{flat, AreWhole}
-use Rattle.flash_table.specs.Entries.{vacants}
+use Rattle.std.proofs.Common.{ap, ◌∙◌, ◌++◌, length}
+use Rattle.flash_table.specs.Flat.{flat}
 use Rattle.flash_table.proofs.Flat.{whole_push, flat_push}
 use Rattle.flash_table.proofs.chain.Chain.add_group.Goals as goal
 

@@ -1,4 +1,4 @@
-use Rattle.std.proofs.Common.{◌≡◌, ◌≤◌, ap, ◌∙◌, arith}
+use Rattle.std.proofs.Common.{◌≡◌, ap, ◌∙◌, arith}
 use Rattle.flash_table.specs.declared.entry.Entry.{Entry}
 use Rattle.flash_table.proofs.Loops.{slot_is, slot_inside, none_seen, none_next, nothing_left}
 use Rattle.flash_table.proofs.chain.Chain.first_empty.Goals as goal

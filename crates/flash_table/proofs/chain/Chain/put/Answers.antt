@@ -1,4 +1,4 @@
-use Rattle.std.proofs.Common.{◌<◌, ◌/◌, ◌%◌, [], ap, sym, ◌∙◌, length, set, length-set, arith}
+use Rattle.std.proofs.Common.{◌<◌, ◌/◌, ◌%◌, [], ap, ◌∙◌, length, set, length-set, arith}
 use Rattle.flash_table.specs.Flat.{flat}
 use Rattle.flash_table.proofs.Flat.{whole_length, whole_set, any_default}
 use Rattle.flash_table.proofs.Groups.{chain_set}

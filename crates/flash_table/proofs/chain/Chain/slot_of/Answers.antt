@@ -1,4 +1,4 @@
-use Rattle.std.proofs.Common.{◌≡◌, ◌≤◌, ap, sym, subst, ◌∙◌, arith}
+use Rattle.std.proofs.Common.{sym, subst, arith}
 use Rattle.flash_table.specs.Entries.{IsFor}
 use Rattle.flash_table.proofs.Loops.{slot_is, slot_inside, none_next, nothing_left}
 use Rattle.flash_table.proofs.chain.Chain.slot_of.Goals as goal

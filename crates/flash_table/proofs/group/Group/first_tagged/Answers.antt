@@ -1,4 +1,4 @@
-use Rattle.std.proofs.Common.{◌≡◌, ◌<◌, ◌^◌, ℕ, ap, sym, ◌∙◌, length, get_or, arith}
+use Rattle.std.proofs.Common.{◌<◌, ap, sym, ◌∙◌, length, arith}
 use Rattle.std.specs.Int.Count.{count_trailing_zeros}
 use Rattle.std.proofs.lemmas.Nat.{trailing_le}
 use Rattle.flash_table.specs.Entries.{entry_at}

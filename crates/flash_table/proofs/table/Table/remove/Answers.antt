@@ -1,10 +1,10 @@
-use Rattle.std.proofs.Common.{◌≡◌, ◌-◌, ℕ, List, Option, Some, None, ap, sym, subst, ◌∙◌}
+use Rattle.std.proofs.Common.{◌≡◌, ◌-◌, ℕ, List, Some, None, ap, sym, subst, ◌∙◌}
 use Rattle.std.specs.FinMap as finite
 use Rattle.flash_table.specs.declared.entry.Entry.{Entry}
 use Rattle.flash_table.specs.Chains.{chain_of, IsSlotOf}
 use Rattle.flash_table.specs.Entries.{entry_at}
 use Rattle.flash_table.specs.Flat.{flat}
-use Rattle.flash_table.specs.Maps.{Items, Keys, items_in, keys_in}
+use Rattle.flash_table.specs.Maps.{items_in, keys_in}
 use Rattle.flash_table.specs.Table.{TableState, IsTable}
 use Rattle.flash_table.proofs.ById.{slot_names}
 use Rattle.flash_table.proofs.ChainSlots.{item_found}
