@@ -1,3 +1,5 @@
+pub mod FindingLemmas
+pub mod LawLemmas
 pub mod OpenLemmas
 pub mod QueueLemmas
 pub mod SlotsLemmas

@@ -28,7 +28,7 @@ pub record Stays (row : Row) (o : Option Row) : Type 0 where
   pub named : next.id ≡ row.id
   pub opened : IsTrue (is_open next.state)
 
-some_row : (o : Option Row) → IsSome o → (row : Row) × (o ≡ Some row)
+pub some_row : (o : Option Row) → IsSome o → (row : Row) × (o ≡ Some row)
 some_row None h = absurd (false≢true h)
 some_row (Some row) h = (row, refl)
 
@@ -65,7 +65,7 @@ pub keeps-ends : (slot : ℕ) (state : State) (t new : TicketTable) → new ≡ 
 keeps-ends slot state t new is over some =
     keeps-changed (ended state) slot t new t.queue is some (λ row here opened. ended_stays state row (is_forgotten row.state) over opened)
 
-spare_some : (o : Option Row) → has_spare o ≡ true → IsSome o
+pub spare_some : (o : Option Row) → has_spare o ≡ true → IsSome o
 spare_some None h = absurd (false≢true h)
 spare_some (Some row) h = refl
 

@@ -1,5 +1,7 @@
 pub mod Answers
 pub mod Calls
+pub mod Finding
+pub mod Law
 pub mod Queue
 pub mod Row
 pub mod Slots

@@ -16,8 +16,12 @@ pub record TicketTable : Type 0 where
 -- a table is stored as the pair of its parts
 abbrev pub table_code : Coded TicketTable
 table_code =
-    code_by (Rows × List ℕ) (coded× (map.code coded_ℕ kept.the_row.coded) (coded_list coded_ℕ))
-    (λ t. (t.rows, t.queue)) (λ p. record { rows = p.0; queue = p.1 }) (λ _. refl)
+    code_by
+    (Rows × List ℕ)
+    (coded× (map.code coded_ℕ kept.the_row.coded) (coded_list coded_ℕ))
+    (λ t. (t.rows, t.queue))
+    (λ p. record { rows = p.0; queue = p.1 })
+    (λ _. refl)
 
 -- the tickets of a slab, with this queue
 abbrev pub table_of : Slab Row → List ℕ → TicketTable

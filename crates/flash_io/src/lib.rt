@@ -11,12 +11,14 @@
 #![tactic(auto)]
 
 mod job;
+mod laws;
 mod queue;
 mod row;
 mod slots;
 mod tickets;
 
 pub use job::{Asked, Collected, ReadJob, Ticket};
+pub use laws::{closes_once, finds_the_queued};
 pub use row::State;
 pub use tickets::Tickets;
 

@@ -1,10 +1,10 @@
-ghost use Rattle.std.specs.Prelude.{◌≡◌, false, None, Some, IsSome, IfSome, IfNone, IsSomeAnd, is_some, IsTrue, MatchOption, length};
+ghost use Rattle.std.specs.Prelude.{◌≡◌, false, None, Some, IsSome, IfSome, IfNone, IsSomeAnd, is_some, IsTrue};
 ghost use Rattle.slab.specs.Slab.{HasRoomFor, get, Updates};
 ghost use Rattle.flash_io.specs.declared.job.Ticket.{Ticket};
 ghost use Rattle.flash_io.specs.States.{is_queued, is_over};
 ghost use Rattle.flash_io.specs.Row.{in_flight, closed, without_spare};
 ghost use Rattle.flash_io.specs.Slots.{Changes, ended, dropped, has_spare, is_over_row, if_flying};
-ghost use Rattle.flash_io.specs.Answers.{answer_of, IsAsked, IsJob};
+ghost use Rattle.flash_io.specs.Answers.{answer_of, IsAskedOf, IsCopyOf, IsJob};
 
 use crate::row::TicketRow;
 use crate::{Asked, Collected, ReadJob, State, Ticket};
@@ -79,7 +79,7 @@ pub fn forget(rows: &mut Slab<TicketRow>, slot: usize)
 /// The memory for the second copy of the value, where the ticket is flying and it is still there.
 pub fn take_spare(rows: &mut Slab<TicketRow>, slot: usize) -> Option<Blob>
     ensures there { is_some result ≡ has_spare (get rows.old slot) }
-    ensures whole { IfSome result (λ bytes. IsSomeAnd (get rows.old slot) (λ row. length bytes ≡ row.head.size)) }
+    ensures whole { IfSome result (IsCopyOf (get rows.old slot)) }
     ensures taken { IsSome result → Changes (λ row. Some (without_spare row)) slot rows.old rows.new }
     ensures none { IfNone result (rows.new ≡ rows.old) }
 {
@@ -111,7 +111,7 @@ pub fn collect(rows: &mut Slab<TicketRow>, ticket: Ticket) -> Collected
 
 /// What was submitted for the ticket in the slot, where there is one.
 pub fn asked(rows: &Slab<TicketRow>, slot: usize) -> Option<Asked<'_>>
-    ensures { MatchOption result (get rows.now slot ≡ None) (λ asked. IsSomeAnd (get rows.now slot) (IsAsked asked)) }
+    ensures { IsAskedOf (get rows.now slot) result }
 {
     let row = rows.get(slot)?;
     Some(row.asked())
@@ -119,8 +119,7 @@ pub fn asked(rows: &Slab<TicketRow>, slot: usize) -> Option<Asked<'_>>
 
 /// What was submitted for the ticket in the slot, where it is flying and has the id.
 pub fn asked_flying(rows: &Slab<TicketRow>, slot: usize, id: Id) -> Option<Asked<'_>>
-    ensures { MatchOption result (if_flying id (get rows.now slot)
-        ≡ None) (λ asked. IsSomeAnd (if_flying id (get rows.now slot)) (IsAsked asked)) }
+    ensures { IsAskedOf (if_flying id (get rows.now slot)) result }
 {
     let row = rows.get(slot)?;
     if row.is_flying() && row.has_id(id) {

@@ -1,4 +1,4 @@
-ghost use Rattle.std.specs.Prelude.{◌≡◌, ◌<◌, ◌↔◌, [], false, length, None, Some, IfNone, IfOk, IfSome, OnErr, IsSome, IsSomeAnd, IsTrue, is_some, option_map, slice_get, MatchOption};
+ghost use Rattle.std.specs.Prelude.{◌≡◌, ◌<◌, ◌↔◌, [], false, length, None, Some, IfNone, IfOk, IfSome, OnErr, IsSome, IsSomeAnd, IsTrue, is_some, option_map, slice_get};
 ghost use Rattle.flash_names.specs.declared.place.Id.{Id};
 ghost use Rattle.flash_io.specs.declared.job.ReadJob.{ReadJob};
 ghost use Rattle.flash_io.specs.States.{is_over};
@@ -6,7 +6,7 @@ ghost use Rattle.flash_io.specs.Row.{first_row};
 ghost use Rattle.flash_io.specs.Slots.{has_spare};
 ghost use Rattle.flash_io.specs.TicketTable.{no_tickets, row_of, next_id, queued_with, asked_row};
 ghost use Rattle.flash_io.specs.Sound.{IsSound, HasOpen, HasNoOpen, KeepsOpen, IsOut};
-ghost use Rattle.flash_io.specs.Answers.{answer_of, IsAsked, IsJob};
+ghost use Rattle.flash_io.specs.Answers.{answer_of, IsAskedOf, IsCopyOf, IsJob};
 
 use crate::row::TicketRow;
 use crate::{Asked, Collected, ReadJob, State, Ticket, queue, slots};
@@ -81,8 +81,8 @@ impl Tickets {
         requires { HasNoOpen self.old id }
         ensures id { IfOk result (λ ticket. ticket.id ≡ id) }
         ensures free { IfOk result (λ ticket. row_of self.old ticket.slot ≡ None) }
-        ensures after { IfOk result (λ ticket. self.new
-            ≡ after (submits ticket.slot (first_row id key.now place head recache)) self.old) }
+        ensures after { let row = first_row id key.now place head recache in
+            IfOk result (λ ticket. self.new ≡ after (submits ticket.slot row) self.old) }
         ensures opened { IfOk result (λ ticket. IsOpenTicket self.new ticket) }
         ensures keeps { KeepsOpen self.old self.new }
         ensures refused { OnErr result (self.new ≡ self.old) }
@@ -176,8 +176,7 @@ impl Tickets {
     /// What was submitted for the queued ticket of the id or, with a slot, for the flying one of that id in it;
     /// `None` where there is no such ticket.
     pub fn asked(&self, id: Id, slot: Option<usize>) -> Option<Asked<'_>>
-        ensures { MatchOption result (asked_row self.now id slot
-            ≡ None) (λ asked. IsSomeAnd (asked_row self.now id slot) (IsAsked asked)) }
+        ensures { IsAskedOf (asked_row self.now id slot) result }
     {
         match slot {
             Some(slot) => slots::asked_flying(&self.rows, slot, id),
@@ -192,8 +191,7 @@ impl Tickets {
     /// for recaching, and it wasn't taken yet.
     pub fn take_spare(&mut self, slot: usize) -> Option<Blob>
         ensures there { is_some result ≡ has_spare (row_of self.old slot) }
-        ensures whole { IfSome result (λ bytes. IsSomeAnd (row_of self.old slot) (λ row. length bytes
-            ≡ row.head.size)) }
+        ensures whole { IfSome result (IsCopyOf (row_of self.old slot)) }
         ensures after { self.new ≡ after (takes_spare slot) self.old }
         ensures keeps { KeepsOpen self.old self.new }
         ensures out { (job : ReadJob) → IsOut self.old job → IsOut self.new job }
