@@ -1,0 +1,6 @@
+pub mod Item
+pub mod ItemsState
+pub mod Codes
+pub mod Calls
+pub mod Law
+pub mod Joined
