@@ -14,7 +14,7 @@ pub record BufferTable : Type 0 where
   pub queue : List ℕ
   pub in_flight : Bool
 
--- all buffers are free, and the spare is there
+-- all buffers are free, and no job is in flight
 abbrev pub first_table : ℕ → ℕ → BufferTable
 first_table buffers size = record { size = size; blocks = replicate buffers None; queue = []; in_flight = false }
 

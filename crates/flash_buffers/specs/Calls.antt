@@ -20,11 +20,11 @@ pub data Call : Type 0 where
 abbrev pub job_of : ℕ → Block → WriteJob
 job_of size block = record { place = block_place size block; bytes = block_bytes size block }
 
--- the job of the oldest sealed buffer, unless the spare is out
+-- the job of the oldest sealed buffer, unless a job is in flight
 abbrev pub next_job : BufferTable → Option WriteJob
 next_job t = if t.in_flight then None else option_map (λ b. job_of t.size b) (oldest_block t)
 
--- there is none: none is sealed, or the spare is out
+-- there is none: none is sealed, or a job is in flight
 abbrev pub is_idle : BufferTable → Bool
 is_idle t = t.in_flight || nat_eq (length t.queue) 0
 

@@ -28,12 +28,12 @@ pub struct WriteJob {
     pub bytes: Blob,
 }
 
-/// The write buffers, the queue of those that are sealed, and a spare whose bytes a job takes along.
+/// The write buffers, the queue of those that are sealed, and one buffer more, whose bytes a job takes along.
 #[derive(Debug, Drop)]
 pub struct Buffers {
     rows: Vec<Buffer>,
     queue: Vec<u32>,
-    spare: Option<Blob>,
+    job_buffer: Option<Blob>,
     size: u32,
 }
 
@@ -46,15 +46,15 @@ impl Model for Buffers {
 
     ghost Value = { BufferTable };
 
-    ghost view = { λ b. record { size = b.size; blocks = blocks_in b.rows.items; queue = b.queue.items; in_flight = is_none b.spare } };
+    ghost view = { λ b. record { size = b.size; blocks = blocks_in b.rows.items; queue = b.queue.items; in_flight = is_none b.job_buffer } };
 
-    ghost invariant = { λ b. IsSound b.size b.rows.items b.queue.items (vec_capacity b.queue) × ForSome b.spare (λ bytes. length bytes ≡ b.size) };
+    ghost invariant = { λ b. IsSound b.size b.rows.items b.queue.items (vec_capacity b.queue) × ForSome b.job_buffer (λ bytes. length bytes ≡ b.size) };
 }
 
 impl Buffers {
     ghost use Rattle.flash_buffers.specs.Calls.{table_after, takes, appends, seals, begins, writes, unwrites, drops, next_job, is_idle, IsInFlight, IsNotInFlight, CanTake};
 
-    /// So many free buffers of so many bytes, and one spare, or an error where memory runs out. No later call answers that.
+    /// So many free buffers of so many bytes, and one more for jobs, or an error where memory runs out. No later call answers that.
     pub fn open(alloc: Global, buffers: u32, size: u32) -> Result<Buffers, AllocError>
         ensures { IfOk result (λ all. all ≡ first_table buffers size) }
     {
@@ -65,7 +65,7 @@ impl Buffers {
         Ok(Buffers {
             rows,
             queue: Vec::with_capacity(alloc, buffers as usize)?,
-            spare: Some(Blob::from(vec![in alloc; 0; size as usize]?)),
+            job_buffer: Some(Blob::from(vec![in alloc; 0; size as usize]?)),
             size,
         })
     }
@@ -128,7 +128,7 @@ impl Buffers {
         put_last(&mut self.queue, id.number);
     }
 
-    /// The oldest sealed buffer's bytes, copied into the spare; `None` where none is sealed or the spare is
+    /// The oldest sealed buffer's bytes, copied into the buffer for jobs; `None` where none is sealed or a job is
     /// out. The job has to be given back by `written` or `unwritten`.
     pub fn write_begin(&mut self) -> Option<WriteJob>
         ensures exact { result ≡ next_job self.old }
@@ -138,11 +138,11 @@ impl Buffers {
     {
         let number = *self.queue.first()?;
         let place = self.rows[number as usize].place()?;
-        let spare = self.spare.take()?;
+        let job_buffer = self.job_buffer.take()?;
         let row = &self.rows[number as usize];
         Some(WriteJob {
             place,
-            bytes: filled(spare, row.bytes()),
+            bytes: filled(job_buffer, row.bytes()),
         })
     }
 
@@ -185,15 +185,15 @@ impl Buffers {
         Some(row.read(place))
     }
 
-    // The job's bytes are the spare again: they are as many as the bytes of each buffer.
+    // The job's bytes are the buffer for jobs again: they are as many as the bytes of each buffer.
     fn take_back(&mut self, job: WriteJob)
         requires { IsInFlight self.old job }
         ensures { self.new ≡ table_after (unwrites job) self.old }
     {
-        // Read for the proof: the first buffer's size is the spare's.
+        // Read for the proof: the first buffer's size is that of the buffer for jobs.
         let row = &self.rows[self.queue[0] as usize];
         let _size = row.bytes().len();
-        self.spare = Some(job.bytes);
+        self.job_buffer = Some(job.bytes);
     }
 }
 

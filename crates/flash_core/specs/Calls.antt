@@ -20,6 +20,7 @@ use Rattle.flash_machine.specs.Steps.{clock_next}
 use Rattle.flash_core.specs.declared.found.Found.{Found}
 use Rattle.flash_core.specs.declared.found.Found.TheVariants as found
 use Rattle.flash_core.specs.Store.{Desk, Call}
+use Rattle.flash_machine.specs.Moments.{last_moment}
 
 -- the keys without the first that is this one
 abbrev pub keys_without : List ℕ → List (List ℕ) → List (List ℕ)
@@ -100,4 +101,4 @@ clock_to c desk moment =
 
 -- what a reading of the clock does: above 2^62 it counts as 2^62
 abbrev pub clock_call : Cache → Desk → ℕ → Call Bool
-clock_call c desk reading = clock_to c desk (min reading (2 ^ 62))
+clock_call c desk reading = clock_to c desk (min reading last_moment)

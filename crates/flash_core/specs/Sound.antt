@@ -10,6 +10,7 @@ use Rattle.flash_machine.specs.Steps.{cache_of}
 use Rattle.flash_machine.specs.Legal.{Legal, IsNew}
 use Rattle.flash_core.specs.declared.item.Item.{Item}
 use Rattle.flash_core.specs.Items.{HaveOwnKeys, HaveOwnNumbers, AreKept, cache_of_items}
+use Rattle.flash_machine.specs.Moments.{last_moment}
 
 -- the journal is a run of the one-thread cache, and this is the cache that it makes
 pub record IsRun (g : Geometry) (c : Cache) (h : List Entry) : Type 0 where
@@ -31,5 +32,5 @@ pub record IsSound (g : Geometry) (items : List Item) (moment last_cas : ℕ) (t
   pub own_keys : HaveOwnKeys items
   pub own_numbers : HaveOwnNumbers items
   pub kept : AreKept g.item_max last_cas items
-  pub within : moment ≤ 2 ^ 62
+  pub within : moment ≤ last_moment
   pub run : IsToldRun g (cache_of_items items moment last_cas) told

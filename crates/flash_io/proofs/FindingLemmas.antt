@@ -29,9 +29,9 @@ fails p (x ∷ xs) slot e h =
     elim (p x) as (λ b. p x ≡ b → cond b (Some x) (find p xs) ≡ None → p slot ≡ false) [
       | true ↦ λ good found. absurd (cc)
       | false ↦ λ bad found. elim (eqb x slot) as (λ b. eqb x slot ≡ b → 0 < cond b 1 0 + count_of slot xs → p slot ≡ false) [
-          | true ↦ λ same some. ap p (sym (eqb-true x slot same)) ∙ bad
-          | false ↦ λ other some. fails p xs slot found (omega arith)
-        ] refl h
+        | true ↦ λ same some. ap p (sym (eqb-true x slot same)) ∙ bad
+        | false ↦ λ other some. fails p xs slot found (omega arith)
+      ] refl h
     ] refl e
 
 queued_as : (id : Id) (o : Option Row) → IsSomeAnd o (λ row. IsTrue (is_queued row.state)) → has_id id o ≡ true → IsSomeAnd o (IsQueuedAs id)

@@ -46,8 +46,14 @@ impl Model for TicketRow {
     ghost Value = { Row };
 
     ghost view = { λ r. record {
-        id = r.id; key = r.key; place = r.place; head = r.head; recache = r.recache;
-        spare = is_some r.spare; state = r.state } };
+      id = r.id;
+      key = r.key;
+      place = r.place;
+      head = r.head;
+      recache = r.recache;
+      spare = is_some r.spare;
+      state = r.state;
+    } };
 
     ghost invariant = { λ r. HasBytes r.place.length r.bytes r.state
         × ForSome r.spare (λ bytes. length bytes ≡ r.head.size) };

@@ -17,6 +17,7 @@ use Rattle.flash_machine.specs.Live.{is_expired_item, live_item}
 use Rattle.flash_machine.specs.Storing.{store_step}
 use Rattle.flash_machine.specs.Looking.{residence_of}
 use Rattle.flash_machine.specs.Steps.{next}
+use Rattle.flash_machine.specs.Moments.{last_moment}
 
 -- the number of the step that an entry records, if it records one
 abbrev pub step_id : Entry → Option Id
@@ -37,7 +38,7 @@ pub record IsNew (journal : List Entry) (id : Id) : Type 0 where
 -- the moment rises, to 2^62 at most
 pub record Rises (c : Cache) (moment : ℕ) : Type 0 where
   pub above : c.now < moment
-  pub within : moment ≤ 2 ^ 62
+  pub within : moment ≤ last_moment
 
 -- the answer is that of the step; no step of another command is legal yet
 abbrev pub HasStepAnswer : Geometry → List Entry → Cache → Done → Type 0

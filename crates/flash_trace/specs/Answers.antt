@@ -26,6 +26,7 @@ use Rattle.flash_trace.specs.Commands.{commands_of, is_at_end}
 use Rattle.flash_trace.specs.Playing.{Seat, seat_at, play_of}
 use Rattle.flash_trace.specs.Replies.{step_text, plain_text}
 use Rattle.flash_trace.specs.Steps.{Step, Clock, Say, Run, IsSession, AreSeated}
+use Rattle.flash_machine.specs.Moments.{last_moment}
 
 abbrev pub same_id : Id → Id → Bool
 same_id a b = nat_eq a.pass b.pass && nat_eq a.seq b.seq
@@ -157,7 +158,7 @@ pub record IsAnswered (g : Geometry) (session : ℕ) (bytes turns : List ℕ) (j
 
 -- the moment of a store after steps: the greatest reading of the clock, which counts up to 2^62
 abbrev pub moment_with : ℕ → Step → ℕ
-moment_with now (Clock reading) = max now (min reading (2 ^ 62))
+moment_with now (Clock reading) = max now (min reading last_moment)
 moment_with now _ = now
 
 abbrev pub moment_after : ℕ → List Step → ℕ

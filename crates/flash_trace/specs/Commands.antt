@@ -10,6 +10,7 @@ use Rattle.flash_trace.specs.declared.line.SetLine.{SetLine}
 use Rattle.flash_trace.specs.declared.line.Line.{Line}
 use Rattle.flash_trace.specs.declared.line.Line.TheVariants as lines
 use Rattle.flash_trace.specs.Lines.{line_of}
+use Rattle.flash_trace.specs.declared.session.TheConstants.{LINE_LIMIT}
 
 -- where the reader is: in a line; in a block; after one, where a line end has to be; in what is skipped
 -- after a bad data chunk; or at its end
@@ -38,11 +39,11 @@ line_read lines.Unknown = (commands.Refused refusals.Unknown ∷ [], InLine [])
 abbrev pub in_line : ℕ → List ℕ → ℕ → Read
 in_line item_max line b =
     if b == 10 then line_read (line_of item_max line)
-    else ([], (if nat_lt (length line + 1) 65536 then InLine (line ++ b ∷ []) else Ended))
+    else ([], (if nat_lt (length line + 1) LINE_LIMIT then InLine (line ++ b ∷ []) else Ended))
 
 -- a byte in a skip: the line feed ends it
 abbrev pub in_skip : ℕ → ℕ → Reader
-in_skip skipped b = if b == 10 then InLine [] else if nat_lt (skipped + 1) 65536 then Skipping (skipped + 1) else Ended
+in_skip skipped b = if b == 10 then InLine [] else if nat_lt (skipped + 1) LINE_LIMIT then Skipping (skipped + 1) else Ended
 
 -- the two bytes after a bad block: the skip begins with them, and what is after its end is a line
 abbrev pub after_skip : ℕ → Reader → ℕ → Read

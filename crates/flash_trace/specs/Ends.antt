@@ -13,11 +13,12 @@ use Rattle.flash_trace.specs.Answers.{IsRight}
 use Rattle.flash_trace.specs.Outside.{SourceChange, SinkChange, DeviceChange}
 use Rattle.flash_trace.specs.Output.{output, fault_text, text_of}
 use Rattle.flash_trace.specs.Scripts.{Script, fault_of, script_of}
+use Rattle.flash_trace.specs.declared.script.TheConstants.{MAX_BYTES}
 
 -- these bytes were read: all that there are, or more than a script may have, but by 65,536 at most
 pub record HasRead (bytes : List ℕ) (left left_after : Option (List ℕ)) : Type 0 where
   pub taken : left ≡ with_front bytes left_after
-  pub whole : IsAtEnd left_after ⊎ (16777216 < length bytes)
+  pub whole : IsAtEnd left_after ⊎ (MAX_BYTES < length bytes)
   pub bounded : length bytes ≤ 16842752
 
 -- these bytes were written, and none after them

@@ -7,6 +7,7 @@ use Rattle.flash_trace.specs.Answers.{bytes_before_last_run, moment_after}
 use Rattle.flash_trace.specs.Commands.{commands_of, is_at_end}
 use Rattle.flash_trace.specs.Playing.{play_of}
 use Rattle.flash_trace.specs.Steps.{Step, Clock, Say, Run, IsSession, AreSeated}
+use Rattle.flash_machine.specs.Moments.{last_moment}
 
 -- a printed line: a word, and the number of the script's line
 abbrev pub printed_line : List ℕ → ℕ → List ℕ
@@ -16,7 +17,7 @@ printed_line word line = word ++ (32 ∷ decimal line ++ 10 ∷ [])
 -- bytes for a session `closed` where the bytes before its last run end it; a run prints nothing
 abbrev pub step_prints : Geometry → List Step → ℕ → Step → List ℕ
 step_prints g before line (Clock reading) =
-    if nat_lt (moment_after 0 before) (min reading (2 ^ 62)) then [] else printed_line (codes "idle") line
+    if nat_lt (moment_after 0 before) (min reading last_moment) then [] else printed_line (codes "idle") line
 step_prints g before line (Say session bytes) =
     if is_at_end (commands_of g.item_max (bytes_before_last_run session before)).1
     then printed_line (codes "closed") line

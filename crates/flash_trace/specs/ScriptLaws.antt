@@ -5,6 +5,7 @@ use Rattle.flash_trace.specs.declared.fault.Why.{Why}
 use Rattle.flash_trace.specs.declared.fault.Why.TheVariants.{Short, TooLong}
 use Rattle.flash_trace.specs.Steps.{AreSeated}
 use Rattle.flash_trace.specs.Scripts.{Script, Lines, lines_of, geometry_of, step_of, script_of, fault_of}
+use Rattle.flash_trace.specs.declared.script.TheConstants.{MAX_BYTES, MAX_STEPS}
 
 -- bytes are read as a script exactly where no line of theirs is bad
 abbrev pub AreReadOrBad : Type 0
@@ -16,7 +17,7 @@ pub record IsOfLines (lines : Lines) (script : Script) : Type 0 where
   pub ended : lines.rest ≡ []
   pub first : map geometry_of (take 1 lines.whole) ≡ Ok script.geometry ∷ []
   pub others : map step_of (drop 1 lines.whole) ≡ map Ok script.steps
-  pub few : length script.steps ≤ 1048576
+  pub few : length script.steps ≤ MAX_STEPS
 
 -- a script that was read is that of its lines
 abbrev pub IsReadByLines : Type 0
@@ -39,14 +40,14 @@ pub record HasBadLine (lines : Lines) (good : List (List ℕ)) (why : Why) : Typ
 -- the first bad line is the fault, with its number: the steps are on the lines from 2 on
 abbrev pub IsFirstBadLine : Type 0
 IsFirstBadLine =
-    (bytes : List ℕ) (good : List (List ℕ)) (why : Why) → length bytes ≤ 16777216 → length good < 1048576
+    (bytes : List ℕ) (good : List (List ℕ)) (why : Why) → length bytes ≤ MAX_BYTES → length good < MAX_STEPS
     → HasBadLine (lines_of bytes) good why
     → fault_of bytes ≡ Some (record { line = length good + 2; why = why })
 
 -- a first line that is bad is the fault
 abbrev pub IsBadFirstLine : Type 0
 IsBadFirstLine =
-    (bytes first_line : List ℕ) (more : List (List ℕ)) (why : Why) → length bytes ≤ 16777216
+    (bytes first_line : List ℕ) (more : List (List ℕ)) (why : Why) → length bytes ≤ MAX_BYTES
     → (lines_of bytes).whole ≡ first_line ∷ more → geometry_of first_line ≡ Err why
     → fault_of bytes ≡ Some (record { line = 1; why = why })
 
@@ -63,20 +64,20 @@ pub record HasOpenLine (lines : Lines) (good : List (List ℕ)) : Type 0 where
 -- the line that no line feed ends is short, with its number
 abbrev pub IsShortLine : Type 0
 IsShortLine =
-    (bytes : List ℕ) (good : List (List ℕ)) → length bytes ≤ 16777216 → length good < 1048576
+    (bytes : List ℕ) (good : List (List ℕ)) → length bytes ≤ MAX_BYTES → length good < MAX_STEPS
     → HasOpenLine (lines_of bytes) good
     → fault_of bytes ≡ Some (record { line = length good + 2; why = Short })
 
 -- without a line feed line 1 is short
 abbrev pub IsShortFirstLine : Type 0
 IsShortFirstLine =
-    (bytes : List ℕ) → length bytes ≤ 16777216 → (lines_of bytes).whole ≡ []
+    (bytes : List ℕ) → length bytes ≤ MAX_BYTES → (lines_of bytes).whole ≡ []
     → fault_of bytes ≡ Some (record { line = 1; why = Short })
 
 -- too many bytes are before all other faults
 abbrev pub HasTooManyBytes : Type 0
 HasTooManyBytes =
-    (bytes : List ℕ) → 16777216 < length bytes → fault_of bytes ≡ Some (record { line = 0; why = TooLong })
+    (bytes : List ℕ) → MAX_BYTES < length bytes → fault_of bytes ≡ Some (record { line = 0; why = TooLong })
 
 -- the sessions of a script that was read are from 1 to 16
 abbrev pub HasSeats : Type 0

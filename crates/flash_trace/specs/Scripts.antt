@@ -16,6 +16,7 @@ use Rattle.flash_trace.specs.declared.fault.ScriptFault.{ScriptFault}
 use Rattle.flash_trace.specs.declared.script.StepWord.{StepWord}
 use Rattle.flash_trace.specs.declared.script.StepWord.TheVariants as begins
 use Rattle.flash_trace.specs.Steps.{Step, Clock, Say, Run}
+use Rattle.flash_trace.specs.declared.script.TheConstants.{MAX_BYTES, MAX_STEPS}
 
 -- a script that has no bad line: the geometry of its first line, that line with its line feed, and its steps
 pub record Script : Type 0 where
@@ -101,9 +102,9 @@ too_long = Some (record { line = 0; why = TooLong })
 -- steps on its lines from 2 to 1,048,577, and a line after these isn't looked at
 abbrev pub steps_fault : ℕ → List (List ℕ) → List ℕ → Option ScriptFault
 steps_fault line [] [] = None
-steps_fault line [] (b ∷ rest) = if nat_lt 1048577 line then too_long else Some (record { line = line; why = Short })
+steps_fault line [] (b ∷ rest) = if nat_lt (MAX_STEPS + 1) line then too_long else Some (record { line = line; why = Short })
 steps_fault line (text ∷ more) rest =
-    if nat_lt 1048577 line then too_long else fault_or line (step_of text) (steps_fault (line + 1) more rest)
+    if nat_lt (MAX_STEPS + 1) line then too_long else fault_or line (step_of text) (steps_fault (line + 1) more rest)
 
 -- the first fault of the lines of these bytes, of which the first has this number
 abbrev pub fault_from : ℕ → List ℕ → Option ScriptFault
@@ -118,7 +119,7 @@ lines_fault lines = elim lines.whole [
 
 -- the first bad line of a script, if it has one; a script has at most 16,777,216 bytes
 abbrev pub fault_of : List ℕ → Option ScriptFault
-fault_of bytes = if nat_lt 16777216 (length bytes) then too_long else lines_fault (lines_of bytes)
+fault_of bytes = if nat_lt MAX_BYTES (length bytes) then too_long else lines_fault (lines_of bytes)
 
 -- the steps of lines that were all read
 abbrev pub steps_of : List (List ℕ) → Option (List Step)

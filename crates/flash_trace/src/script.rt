@@ -102,7 +102,7 @@ fn why_of(fault: HeadFault) -> Why
 // The steps of the lines after the first one, which ends at this place.
 fn read_steps(alloc: Global, bytes: &[u8], steps_offset: usize) -> Result<Vec<Step>, NotRead>
     requires within { steps_offset ≤ length bytes.now }
-    requires small { length bytes.now ≤ 16777216 }
+    requires small { length bytes.now ≤ MAX_BYTES }
     ensures good { IfOk result (λ _. fault_from 2 (drop steps_offset bytes.now) ≡ None) }
     ensures read { IfOk result (λ steps. steps_of (lines_of (drop steps_offset bytes.now)).whole
         ≡ Some (map (step_meant bytes.now) steps.items)) }
@@ -130,7 +130,7 @@ fn read_steps(alloc: Global, bytes: &[u8], steps_offset: usize) -> Result<Vec<St
 // The step of the line that begins at this place, and where the next one begins.
 fn read_step_line(bytes: &[u8], start: usize) -> Result<(Step, usize), Why>
     requires within { start ≤ length bytes.now }
-    requires small { length bytes.now ≤ 16777216 }
+    requires small { length bytes.now ≤ MAX_BYTES }
     ensures cut { IfOk result (λ read. cut_at 10 (drop start bytes.now)
         ≡ Some (slice_range bytes.now start (read.1 - 1), drop read.1 bytes.now)) }
     ensures read { IfOk result (λ read. step_of (slice_range bytes.now start (read.1 - 1))
@@ -151,7 +151,7 @@ fn read_step_line(bytes: &[u8], start: usize) -> Result<(Step, usize), Why>
 fn read_step(bytes: &[u8], start: usize, end: usize) -> Result<Step, Why>
     requires order { start ≤ end }
     requires within { end ≤ length bytes.now }
-    requires small { length bytes.now ≤ 16777216 }
+    requires small { length bytes.now ≤ MAX_BYTES }
     ensures read { MatchResult result
         (λ step. step_of (slice_range bytes.now start end) ≡ Ok (step_meant bytes.now step))
         (λ why. step_of (slice_range bytes.now start end) ≡ Err why) }

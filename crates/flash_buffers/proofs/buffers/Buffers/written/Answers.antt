@@ -30,7 +30,7 @@ returns c =
     let was : Bool = c.args.self.now.in_flight in
     let some : 0 < length queue = omega arith in
     let rest : c.remove-number.new.self.items ≡ drop 1 queue = c.remove-number.ensures.items ∙ without_first queue in
-    let home : is_none c.self.inside.spare ≡ false = ap (λ (t : BufferTable). t.in_flight) (c.self.view_is ∙ c.take_back.ensures) in
+    let home : is_none c.self.inside.job_buffer ≡ false = ap (λ (t : BufferTable). t.in_flight) (c.self.view_is ∙ c.take_back.ensures) in
     let table : BufferTable = record { size = size; blocks = blocks_in slots; queue = queue; in_flight = was } in
     let same : table ≡ c.args.self.now = ap (λ (t : BufferTable). record t { in_flight = was }) (c.self.view_is ∙ c.take_back.ensures) in
     let last : record { size = size; blocks = blocks_in (set slots n new); queue = drop 1 queue; in_flight = false } ≡ with_first_free c.args.self.now c.args.self.now.queue =
