@@ -1,10 +1,10 @@
 -- The search of the queue by an id.
-use Rattle.std.proofs.Common.{◌≡◌, ℕ, ◌+◌, ◌<◌, Bool, true, false, cond, eqb, List, [], ◌∷◌, Option, None, Some, sym, ap, ◌∙◌, refl, subst, arith}
+use Rattle.std.proofs.Common.{◌≡◌, ℕ, ◌+◌, ◌<◌, Bool, true, false, cond, eqb, List, [], ◌∷◌, Option, None, Some, sym, ap, ◌∙◌, refl, arith}
 use Rattle.std.specs.Prelude.{IsTrue, IsSomeAnd, find}
 use Rattle.std.proofs.lemmas.Bool.{false≢true}
 use borrow.Author.Tests.{eqb-true}
 use Rattle.flash_names.specs.declared.place.Id.{Id}
-use Rattle.flash_io.specs.States.{is_queued, same_id}
+use Rattle.flash_io.specs.States.{is_queued}
 use Rattle.flash_io.specs.Row.{Row}
 use Rattle.flash_io.specs.Slots.{has_id, is_queued_row}
 use Rattle.flash_io.specs.Queue.{count_of}

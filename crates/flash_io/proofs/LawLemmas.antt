@@ -1,6 +1,6 @@
 -- No ticket is closed twice.
-use Rattle.std.proofs.Common.{◌≡◌, ℕ, ◌+◌, ◌≤◌, Bool, true, false, cond, not, eqb, List, [], ◌∷◌, Option, None, Some, sym, ap, ◌∙◌, refl, subst, arith, eq-eqb}
-use Rattle.std.specs.Prelude.{IsTrue, IsSome, IsSomeAnd}
+use Rattle.std.proofs.Common.{◌≡◌, ℕ, ◌+◌, ◌≤◌, Bool, true, false, cond, eqb, List, [], ◌∷◌, Option, None, Some, sym, ap, ◌∙◌, refl, arith, eq-eqb}
+use Rattle.std.specs.Prelude.{IsTrue}
 use Rattle.std.specs.FinMap.{remove}
 use Rattle.std.proofs.lemmas.Bool.{ne_eqb, false≢true}
 use borrow.Author.Tests.{eqb-true}
@@ -13,7 +13,7 @@ use Rattle.flash_io.specs.Row.{Row, in_flight, closed, forgotten, without_spare}
 use Rattle.flash_io.specs.Slots.{ended, dropped, has_spare, is_over_row}
 use Rattle.flash_io.specs.Queue.{without}
 use Rattle.flash_io.specs.TicketTable.{TicketTable, row_of}
-use Rattle.flash_io.specs.Calls.{Call, submits, flies, loses, ends, takes_spare, collects, forgets, after, with_row, unqueued}
+use Rattle.flash_io.specs.Calls.{Call, submits, flies, loses, ends, takes_spare, collects, forgets, after, with_row}
 use Rattle.flash_io.specs.Law.{Allowed, AllAllowed, submitted_by, closed_by, submissions, closings, unclosed}
 use Rattle.flash_io.proofs.SoundLemmas.{PutAt, at_slot, put_by, get-put}
 use Rattle.flash_io.proofs.TableLemmas.{there}

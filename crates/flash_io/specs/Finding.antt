@@ -1,5 +1,5 @@
 -- What the search of the queue by an id finds.
-use Rattle.std.specs.Prelude.{◌≡◌, ℕ, false, IsTrue, IsSomeAnd, Option, None, Some}
+use Rattle.std.specs.Prelude.{ℕ, IsTrue, IsSomeAnd, Option, None, Some}
 use Rattle.flash_names.specs.declared.place.Id.{Id}
 use Rattle.flash_io.specs.States.{same_id, is_queued}
 use Rattle.flash_io.specs.Row.{Row}

@@ -1,5 +1,5 @@
 -- What any list of calls keeps: no ticket is closed twice.
-use Rattle.std.specs.Prelude.{◌≡◌, ℕ, ◌+◌, ◌≤◌, List, [], ◌∷◌, true, nat_eq, IsTrue, IsSome, IsSomeAnd, Option, None, Some, if◌then◌else◌}
+use Rattle.std.specs.Prelude.{◌≡◌, ℕ, ◌+◌, ◌≤◌, List, [], ◌∷◌, nat_eq, IsTrue, IsSome, IsSomeAnd, Option, None, Some, if◌then◌else◌}
 use Rattle.flash_io.specs.States.{is_queued, is_flying, is_over}
 use Rattle.flash_io.specs.Row.{Row}
 use Rattle.flash_io.specs.TicketTable.{TicketTable, row_of}
