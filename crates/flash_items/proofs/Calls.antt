@@ -1,7 +1,6 @@
 -- What each call leaves, over what a contract sees.
-use Rattle.std.proofs.Common.{◌≡◌, ℕ, ◌+◌, ◌<◌, ◌≤◌, Bool, true, false, cond, ◌&&◌, ltb, List, [], ◌∷◌, Option, Some, None, IsSome, ◌↔◌, is_some, option_map, unwrap_or, get_or, set, length, count_by, refl, sym, ◌∙◌, ap, subst, inl, inr, ◌⊎◌, arith}
-use Rattle.std.specs.Ordering.{nat_cmp}
-use Rattle.std.specs.FinMap.{get, insert, remove}
+use Rattle.std.proofs.Common.{◌≡◌, ℕ, true, cond, List, [], Option, Some, None, IsSome, is_some, option_map, unwrap_or, get_or, length, refl, sym, ◌∙◌, ap, subst, inl, inr, arith}
+use Rattle.std.specs.FinMap.{get, insert}
 use Rattle.std.proofs.lemmas.Bool.{cases_eq, cases_lt}
 use Rattle.std.proofs.lemmas.List.{get_or_past}
 use Rattle.std.proofs.lemmas.List.Sums.{sum_by-set}
@@ -10,21 +9,19 @@ use Rattle.slab.specs.Slab.{get as slot_at}
 use Rattle.flash_names.specs.declared.place.ItemId.{ItemId}
 use Rattle.flash_lru.specs.declared.segment.Segment.{Segment}
 use Rattle.flash_lru.specs.declared.segment.Segment.TheVariants.{Hot, Warm, Cold}
-use Rattle.flash_lru.specs.declared.card.Card.{Card}
 use Rattle.flash_lru.specs.declared.card.Move.{Move}
 use Rattle.flash_lru.specs.Lists.{SegmentLists, HasCard, cards_of}
-use Rattle.flash_lru.specs.Moves.{moved, removed, touched, resized}
+use Rattle.flash_lru.specs.Moves.{moved, touched, resized}
 use Rattle.flash_lru.specs.Juggle.{next_move, with_move}
 use Rattle.flash_table.specs.Table.{TableState}
 use Rattle.flash_items.specs.declared.item.Item.{Item}
 use Rattle.flash_items.specs.declared.item.Entry.{Entry}
-use Rattle.flash_items.specs.declared.item.Parts.{Parts}
 use Rattle.flash_items.specs.Item.{with_key, item_size}
-use Rattle.flash_items.specs.ItemsState.{Ids, ItemMap, ItemsState, HasItem, IsAt, item_at, size_at, AreSized}
+use Rattle.flash_items.specs.ItemsState.{Ids, ItemMap, ItemsState, HasItem, IsAt, item_at, size_at}
 use Rattle.flash_items.specs.Calls.{with_item}
 use Rattle.flash_items.specs.Joined.{item_of, items_in, spare_of, state_of, IsJoined}
 use Rattle.flash_items.proofs.Entries.{get_items}
-use Rattle.flash_items.proofs.Slots.{none_some, none_is_some, Sets, sets_of, size_set, size_set_else}
+use Rattle.flash_items.proofs.Slots.{none_some, Sets, sets_of, size_set, size_set_else}
 use Rattle.flash_items.proofs.CardLists.{sized_touched, sized_resized, sized_same}
 use Rattle.flash_items.proofs.ListSteps.{AllSized, cards_moved_else, cards_moved_here, cards_changed, moved_sized, move_sized}
 use Rattle.flash_items.proofs.Steps.{SameCards, some_of, one_value, all_sized, joined_lists, joined_put, put_items}
@@ -74,9 +71,10 @@ joined_touched t entries lists id joined =
 
 pub same_moved : (segment : Segment) (id : ItemId) (size : ℕ) (lists : SegmentLists) → HasCard lists id → SameCards lists (moved segment id size lists)
 same_moved segment id size lists card other = elim (cases_eq other.key id.key) [
-    inl here ↦ (
-        λ _. subst (λ k. HasCard lists (record { key = k })) (sym here) card,
-        λ _. subst (λ k. HasCard (moved segment id size lists) (record { key = k })) (sym here) (cards_moved_here segment id size lists))
+  | inl here ↦ (
+    λ _. subst (λ k. HasCard lists (record { key = k })) (sym here) card,
+    λ _. subst (λ k. HasCard (moved segment id size lists) (record { key = k })) (sym here) (cards_moved_here segment id size lists),
+  )
   | inr apart ↦ (let same = cards_moved_else segment id other size lists apart in (λ h. omega (arith, same), λ h. omega (arith, same)))
 ]
 
@@ -119,11 +117,11 @@ state_juggled t entries lists value is =
 -- the number of entries stays where one is changed
 pub len_put : (entries : Slab Entry) (n : ℕ) (was entry : Entry) → slot_at entries n ≡ Some was → slab_len (with_value entries n entry) ≡ slab_len entries
 len_put entries n was entry at = elim (cases_lt n (length entries.slots)) [
-    inl inside ↦
-        (let one : ℕ = 1 in
-        let zero : ℕ = 0 in
-        let before : cond (is_some (get_or entries.slots n None)) one zero ≡ one = ap (λ (o : Option Entry). cond (is_some o) one zero) at in
-        omega (arith, before, sum_by-set (λ (o : Option Entry). cond (is_some o) 1 0) entries.slots n (Some entry) None inside))
+  | inl inside ↦
+      (let one : ℕ = 1 in
+      let zero : ℕ = 0 in
+      let before : cond (is_some (get_or entries.slots n None)) one zero ≡ one = ap (λ (o : Option Entry). cond (is_some o) one zero) at in
+      omega (arith, before, sum_by-set (λ (o : Option Entry). cond (is_some o) 1 0) entries.slots n (Some entry) None inside))
   | inr past ↦ absurd (none_some was (sym (get_or_past entries.slots n None past) ∙ at))
 ]
 
@@ -170,9 +168,9 @@ same_resized id size lists other =
 pub kept_sized : (t : TableState) (entries : Slab Entry) (lists : SegmentLists) (id : ItemId) (was entry : Entry) → IsJoined t entries lists → slot_at entries id.key ≡ Some was → item_size (item_of t.keys entry) ≡ item_size (item_of t.keys was) → AllSized (insert (items_in t.keys entries.slots) id.key (item_of t.keys entry)) lists
 kept_sized t entries lists id was entry joined at size =
     let alike : (n : ℕ) → size_at (insert (items_in t.keys entries.slots) id.key (item_of t.keys entry)) n ≡ size_at (items_in t.keys entries.slots) n = λ n. elim (cases_eq n id.key) [
-        inl here ↦ subst (λ k. size_at (insert (items_in t.keys entries.slots) id.key (item_of t.keys entry)) k ≡ size_at (items_in t.keys entries.slots) k) (sym here)
-            (size_set (items_in t.keys entries.slots) id.key (item_of t.keys entry) ∙ ap (λ k. Some k) size
-            ∙ sym (ap (option_map item_size) (get_items t.keys entries.slots id.key ∙ ap (option_map (item_of t.keys)) at)))
+      | inl here ↦ subst (λ k. size_at (insert (items_in t.keys entries.slots) id.key (item_of t.keys entry)) k ≡ size_at (items_in t.keys entries.slots) k) (sym here)
+          (size_set (items_in t.keys entries.slots) id.key (item_of t.keys entry) ∙ ap (λ k. Some k) size
+          ∙ sym (ap (option_map item_size) (get_items t.keys entries.slots id.key ∙ ap (option_map (item_of t.keys)) at)))
       | inr other ↦ size_set_else (items_in t.keys entries.slots) id.key (item_of t.keys entry) n other
     ] in
     record {

@@ -1,7 +1,6 @@
 -- The items of the entries of slots.
-use Rattle.std.proofs.Common.{◌≡◌, ℕ, zero, suc, ◌+◌, ◌-◌, ◌<◌, ◌≤◌, Bool, true, false, cond, List, [], ◌∷◌, Option, Some, None, option_map, is_some, count_by, get_or, refl, sym, ◌∙◌, ap, subst, inl, inr, ◌⊎◌, arith}
+use Rattle.std.proofs.Common.{◌≡◌, ℕ, zero, suc, ◌+◌, ◌<◌, true, false, cond, List, [], ◌∷◌, Option, Some, None, option_map, is_some, count_by, get_or, refl, ◌∙◌, ap, arith}
 use Rattle.std.specs.Ordering.{nat_cmp, eq_by_cmp}
-use Rattle.std.proofs.lemmas.Bool.{cases_eq}
 use Rattle.std.proofs.lemmas.Bool.Decides.{nat_tests}
 use Rattle.std.specs.Cmp.{nat_cmp_total}
 use Rattle.std.specs.FinMap.{get, find, insert, len, contains_key, len-empty, len-insert, from_entries, get-from_entries, same_map, nat_cmp-IsAntisymmetric}
@@ -59,10 +58,10 @@ len_from keys k (Some entry ∷ slots) =
     let zero : ℕ = 0 in
     let one : ℕ = 1 in
     let absent : contains_key (from_entries {R = nat_cmp} (items_from keys (k + 1) slots)) k ≡ false =
-        ap (λ (o : Option Item). is_some o) (get-from_entries nat_cmp_total (items_from keys (k + 1) slots) k ∙ find_below keys (k + 1) k slots (omega arith)) in
+    ap (λ (o : Option Item). is_some o) (get-from_entries nat_cmp_total (items_from keys (k + 1) slots) k ∙ find_below keys (k + 1) k slots (omega arith)) in
     let longer : len (insert (from_entries {R = nat_cmp} (items_from keys (k + 1) slots)) k (item_of keys entry)) ≡ len (from_entries {R = nat_cmp} (items_from keys (k + 1) slots)) + 1 =
-        len-insert nat_cmp_total (from_entries (items_from keys (k + 1) slots)) k (item_of keys entry)
-        ∙ ap (λ b. cond b (len (from_entries {R = nat_cmp} (items_from keys (k + 1) slots))) (len (from_entries {R = nat_cmp} (items_from keys (k + 1) slots)) + 1)) absent in
+    len-insert nat_cmp_total (from_entries (items_from keys (k + 1) slots)) k (item_of keys entry)
+    ∙ ap (λ b. cond b (len (from_entries {R = nat_cmp} (items_from keys (k + 1) slots))) (len (from_entries {R = nat_cmp} (items_from keys (k + 1) slots)) + 1)) absent in
     omega (arith, longer, len_from keys (k + 1) slots, sum_by-cons (λ (o : Option Entry). cond (is_some o) one zero) (Some entry) slots)
 
 -- there are as many items as slots that are filled

@@ -1,5 +1,5 @@
 -- The three lists after each call: whose cards they have, and of which sizes.
-use Rattle.std.proofs.Common.{◌≡◌, ℕ, ◌+◌, ◌<◌, ◌≤◌, Bool, true, false, cond, List, [], ◌∷◌, Option, Some, None, ◌↔◌, count_by, refl, sym, ◌∙◌, ap, subst, inl, inr, arith, eq-eqb, ne_eqb}
+use Rattle.std.proofs.Common.{◌≡◌, ℕ, true, false, cond, Option, Some, None, refl, sym, subst, inl, inr, arith, eq-eqb, ne_eqb}
 use Rattle.std.proofs.lemmas.Bool.{cases_Bool}
 use Rattle.flash_names.specs.declared.place.ItemId.{ItemId}
 use Rattle.flash_lru.specs.declared.segment.Segment.{Segment}
@@ -12,7 +12,7 @@ use Rattle.flash_lru.specs.Moves.{without, moved, removed, changed}
 use Rattle.flash_lru.specs.Ends.{last_card}
 use Rattle.flash_lru.specs.Juggle.{exceeds, goes_to, from_full, from_cold, next_move}
 use Rattle.flash_items.specs.ItemsState.{ItemMap, size_at, AreSized}
-use Rattle.flash_items.proofs.CardLists.{count_cons, count_without_same, count_without, count_change, SameElse, sized_without, sized_resized, sized_touched, sized_same, sized_last}
+use Rattle.flash_items.proofs.CardLists.{count_cons, count_without_same, count_without, count_change, SameElse, sized_without, sized_last}
 
 -- the three lists have the sizes of their items
 pub record AllSized (items : ItemMap) (lists : SegmentLists) : Type 0 where
@@ -69,12 +69,12 @@ full_sized items (Some card) sized move is =
 cold_sized : (items : ItemMap) (last : Option Card) → ((card : Card) → last ≡ Some card → size_at items card.item.key ≡ Some card.size) → (move : Move) → from_cold last ≡ Some move → size_at items move.card.item.key ≡ Some move.card.size
 cold_sized items None sized move is = absurd (cc)
 cold_sized items (Some card) sized move is = elim (cases_Bool card.active) [
-    inl on ↦
-        (let some : Some (let m : Move = record { card = card; to = Warm } in m) ≡ Some move = subst (λ b. cond b (Some (let m : Move = record { card = card; to = Warm } in m)) None ≡ Some move) on is in
-        let e : (let m : Move = record { card = card; to = Warm } in m) ≡ move = cc in
-        subst (λ (m : Move). size_at items m.card.item.key ≡ Some m.card.size) e (sized card refl))
+  | inl on ↦
+      (let some : Some (let m : Move = record { card = card; to = Warm } in m) ≡ Some move = subst (λ b. cond b (Some (let m : Move = record { card = card; to = Warm } in m)) None ≡ Some move) on is in
+      let e : (let m : Move = record { card = card; to = Warm } in m) ≡ move = cc in
+      subst (λ (m : Move). size_at items m.card.item.key ≡ Some m.card.size) e (sized card refl))
   | inr off ↦
-        (let some : None ≡ Some move = subst (λ b. cond b (Some (let m : Move = record { card = card; to = Warm } in m)) None ≡ Some move) off is in absurd (cc))
+      (let some : None ≡ Some move = subst (λ b. cond b (Some (let m : Move = record { card = card; to = Warm } in m)) None ≡ Some move) off is in absurd (cc))
 ]
 
 start_none : (items : ItemMap) (card : Card) → None ≡ Some card → size_at items card.item.key ≡ Some card.size
@@ -83,15 +83,15 @@ start_none items card e = absurd (cc)
 pub move_sized : (items : ItemMap) (lists : SegmentLists) → AllSized items lists → (move : Move) → next_move lists ≡ Some move → size_at items move.card.item.key ≡ Some move.card.size
 move_sized items lists sized move is =
     elim (cases_Bool (exceeds 20 lists lists.hot)) [
-        inl hot ↦ full_sized items (last_card lists.hot) (λ card last. sized_last items None lists.hot card (start_none items) sized.hot last) move
-            (subst (λ b. cond b (from_full (last_card lists.hot)) (cond (exceeds 40 lists lists.warm) (from_full (last_card lists.warm)) (from_cold (last_card lists.cold))) ≡ Some move) hot is)
+      | inl hot ↦ full_sized items (last_card lists.hot) (λ card last. sized_last items None lists.hot card (start_none items) sized.hot last) move
+          (subst (λ b. cond b (from_full (last_card lists.hot)) (cond (exceeds 40 lists lists.warm) (from_full (last_card lists.warm)) (from_cold (last_card lists.cold))) ≡ Some move) hot is)
       | inr few ↦
-            (let rest : cond (exceeds 40 lists lists.warm) (from_full (last_card lists.warm)) (from_cold (last_card lists.cold)) ≡ Some move =
-                subst (λ b. cond b (from_full (last_card lists.hot)) (cond (exceeds 40 lists lists.warm) (from_full (last_card lists.warm)) (from_cold (last_card lists.cold))) ≡ Some move) few is in
-            elim (cases_Bool (exceeds 40 lists lists.warm)) [
-                inl warm ↦ full_sized items (last_card lists.warm) (λ card last. sized_last items None lists.warm card (start_none items) sized.warm last) move
-                    (subst (λ b. cond b (from_full (last_card lists.warm)) (from_cold (last_card lists.cold)) ≡ Some move) warm rest)
-              | inr cool ↦ cold_sized items (last_card lists.cold) (λ card last. sized_last items None lists.cold card (start_none items) sized.cold last) move
-                    (subst (λ b. cond b (from_full (last_card lists.warm)) (from_cold (last_card lists.cold)) ≡ Some move) cool rest)
-            ])
+          (let rest : cond (exceeds 40 lists lists.warm) (from_full (last_card lists.warm)) (from_cold (last_card lists.cold)) ≡ Some move =
+          subst (λ b. cond b (from_full (last_card lists.hot)) (cond (exceeds 40 lists lists.warm) (from_full (last_card lists.warm)) (from_cold (last_card lists.cold))) ≡ Some move) few is in
+          elim (cases_Bool (exceeds 40 lists lists.warm)) [
+            | inl warm ↦ full_sized items (last_card lists.warm) (λ card last. sized_last items None lists.warm card (start_none items) sized.warm last) move
+                (subst (λ b. cond b (from_full (last_card lists.warm)) (from_cold (last_card lists.cold)) ≡ Some move) warm rest)
+            | inr cool ↦ cold_sized items (last_card lists.cold) (λ card last. sized_last items None lists.cold card (start_none items) sized.cold last) move
+                (subst (λ b. cond b (from_full (last_card lists.warm)) (from_cold (last_card lists.cold)) ≡ Some move) cool rest)
+          ])
     ]

@@ -1,13 +1,13 @@
 -- Lookups in finite maps whose keys are numbers or bytes.
-use Rattle.std.proofs.Common.{◌≡◌, ℕ, Bool, true, false, cond, List, Option, Some, None, IsSome, refl, sym, ◌∙◌, ap, subst, inl, inr, ◌⊎◌, arith}
+use Rattle.std.proofs.Common.{◌≡◌, ℕ, true, false, cond, List, Some, None, refl, ◌∙◌, ap, subst, inl, inr, ◌⊎◌, arith}
 use Rattle.std.specs.Ordering.{nat_cmp, is_eq, eq_by_cmp}
 use Rattle.std.specs.declared.cmp.Ordering.{Ordering}
 use Rattle.std.specs.declared.cmp.Ordering.TheVariants.{Less, Equal, Greater}
-use Rattle.std.specs.Cmp.{IsTotalOrder, nat_cmp_total}
+use Rattle.std.specs.Cmp.{IsTotalOrder}
 use Rattle.std.proofs.lemmas.Cmp.{eq_by_cmp_equiv}
 use Rattle.std.proofs.lemmas.Bool.Decides.{nat_tests}
 use Rattle.std.specs.Cmp.Lexicographic.{slice_cmp, nat_list_cmp_total}
-use Rattle.std.specs.FinMap.{FinMap, get, insert, remove, empty, from_entries, get-insert, get-remove, get-empty, IsAntisymmetric, nat_cmp-IsAntisymmetric, slice_cmp-IsAntisymmetric, same_map}
+use Rattle.std.specs.FinMap.{FinMap, get, insert, remove, get-insert, get-remove, IsAntisymmetric}
 use Rattle.std.proofs.lemmas.Bool.{cases_Bool}
 
 equal_of : (r : Ordering) → is_eq r ≡ true → r ≡ Equal
@@ -18,7 +18,7 @@ equal_of Greater e = absurd (cc)
 -- two keys are the same, or not
 pub cases_key : {K : Type 0} (R : K → K → Ordering) (anti : IsAntisymmetric R) (itself : (k : K) → eq_by_cmp R k k ≡ true) (q k : K) → (q ≡ k) ⊎ (q ≡ k → ⊥)
 cases_key {K} R anti itself q k = elim (cases_Bool (eq_by_cmp R q k)) [
-    inl e ↦ inl (anti q k (equal_of (R q k) e))
+  | inl e ↦ inl (anti q k (equal_of (R q k) e))
   | inr e ↦ inr (λ same. (let both : eq_by_cmp R q k ≡ true = subst (λ (z : K). eq_by_cmp R q z ≡ true) same (itself q) in cc))
 ]
 

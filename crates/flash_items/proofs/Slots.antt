@@ -1,5 +1,5 @@
 -- The map of items after a slot is filled, and after one is emptied.
-use Rattle.std.proofs.Common.{◌≡◌, ℕ, ◌+◌, ◌<◌, List, [], Option, Some, None, IsSome, option_map, unwrap_or, get_or, set, length, refl, sym, ◌∙◌, ap, subst, inl, inr, ◌⊎◌, arith}
+use Rattle.std.proofs.Common.{◌≡◌, ℕ, List, [], Option, Some, None, IsSome, option_map, unwrap_or, get_or, set, length, refl, sym, ◌∙◌, ap, subst, inl, inr}
 use Rattle.std.specs.Ordering.{nat_cmp}
 use Rattle.std.proofs.lemmas.Bool.{cases_eq, cases_lt}
 use Rattle.std.proofs.lemmas.List.{get_or-set_same, get_or-set_other, get_or_past}
@@ -27,7 +27,7 @@ pub record Sets (old new : List (Option Entry)) (n : ℕ) (slot : Option Entry) 
 
 pub sets_of : (slots : List (Option Entry)) (n : ℕ) (was now : Option Entry) → get_or slots n None ≡ was → IsSome was → Sets slots (set slots n now) n now
 sets_of slots n (Some e) now is some = elim (cases_lt n (length slots)) [
-    inl inside ↦ record { here = get_or-set_same slots n now None inside; else = λ m other. get_or-set_other slots n m now None other }
+  | inl inside ↦ record { here = get_or-set_same slots n now None inside; else = λ m other. get_or-set_other slots n m now None other }
   | inr past ↦ absurd (none_some e (sym (get_or_past slots n None past) ∙ is))
 ]
 sets_of slots n None now is some = absurd (none_is_some some)
@@ -46,22 +46,22 @@ module _ (old new : Keys) (slots now : List (Option Entry)) (n : ℕ) where
 
   pub items_set : (entry : Entry) → Sets slots now n (Some entry) → ((m : ℕ) (e : Entry) → (m ≡ n → ⊥) → get_or slots m None ≡ Some e → SameName old new e) → items_in new now ≡ insert (items_in old slots) n (item_of new entry)
   items_set entry sets same = same_items _ _ (λ m. elim (cases_eq m n) [
-      inl at ↦ subst (λ k. get (items_in new now) k ≡ get (insert (items_in old slots) n (item_of new entry)) k) (sym at)
-          (get_items new now n ∙ ap (option_map (item_of new)) sets.here ∙ sym (insert_here nat_cmp nat_cmp_total nat_cmp-IsAntisymmetric nat_itself (items_in old slots) n (item_of new entry)))
+    | inl at ↦ subst (λ k. get (items_in new now) k ≡ get (insert (items_in old slots) n (item_of new entry)) k) (sym at)
+        (get_items new now n ∙ ap (option_map (item_of new)) sets.here ∙ sym (insert_here nat_cmp nat_cmp_total nat_cmp-IsAntisymmetric nat_itself (items_in old slots) n (item_of new entry)))
     | inr other ↦
-          get_items new now m ∙ ap (option_map (item_of new)) (sets.else m other)
-          ∙ kept_item (get_or slots m None) (λ e is. same m e other is) ∙ sym (get_items old slots m)
-          ∙ sym (insert_else nat_cmp nat_cmp_total nat_cmp-IsAntisymmetric nat_itself (items_in old slots) n (item_of new entry) m other)
+        get_items new now m ∙ ap (option_map (item_of new)) (sets.else m other)
+        ∙ kept_item (get_or slots m None) (λ e is. same m e other is) ∙ sym (get_items old slots m)
+        ∙ sym (insert_else nat_cmp nat_cmp_total nat_cmp-IsAntisymmetric nat_itself (items_in old slots) n (item_of new entry) m other)
   ])
 
   pub items_cut : Sets slots now n None → ((m : ℕ) (e : Entry) → (m ≡ n → ⊥) → get_or slots m None ≡ Some e → SameName old new e) → items_in new now ≡ remove (items_in old slots) n
   items_cut sets same = same_items _ _ (λ m. elim (cases_eq m n) [
-      inl at ↦ subst (λ k. get (items_in new now) k ≡ get (remove (items_in old slots) n) k) (sym at)
-          (get_items new now n ∙ ap (option_map (item_of new)) sets.here ∙ sym (remove_here nat_cmp nat_cmp_total nat_cmp-IsAntisymmetric nat_itself (items_in old slots) n))
+    | inl at ↦ subst (λ k. get (items_in new now) k ≡ get (remove (items_in old slots) n) k) (sym at)
+        (get_items new now n ∙ ap (option_map (item_of new)) sets.here ∙ sym (remove_here nat_cmp nat_cmp_total nat_cmp-IsAntisymmetric nat_itself (items_in old slots) n))
     | inr other ↦
-          get_items new now m ∙ ap (option_map (item_of new)) (sets.else m other)
-          ∙ kept_item (get_or slots m None) (λ e is. same m e other is) ∙ sym (get_items old slots m)
-          ∙ sym (remove_else nat_cmp nat_cmp_total nat_cmp-IsAntisymmetric nat_itself (items_in old slots) n m other)
+        get_items new now m ∙ ap (option_map (item_of new)) (sets.else m other)
+        ∙ kept_item (get_or slots m None) (λ e is. same m e other is) ∙ sym (get_items old slots m)
+        ∙ sym (remove_else nat_cmp nat_cmp_total nat_cmp-IsAntisymmetric nat_itself (items_in old slots) n m other)
   ])
 
 -- the sizes after an item is set, and after one is taken away

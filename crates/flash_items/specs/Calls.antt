@@ -1,5 +1,5 @@
 -- What the calls make of the items.
-use Rattle.std.specs.Prelude.{◌≡◌, ℕ, List, Bool, Option}
+use Rattle.std.specs.Prelude.{◌≡◌, ℕ, Bool, Option}
 use Rattle.std.specs.FinMap.{insert, remove}
 use Rattle.flash_names.specs.declared.place.ItemId.{ItemId}
 use Rattle.flash_lru.specs.declared.segment.Segment.TheVariants.{Hot}

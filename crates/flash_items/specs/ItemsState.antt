@@ -2,9 +2,9 @@
 use Rattle.std.specs.Prelude.{◌≡◌, ℕ, List, [], ◌∷◌, Option, Some, IsSome, option_map}
 use Rattle.std.specs.Ordering.{nat_cmp}
 use Rattle.std.specs.Cmp.Lexicographic.{slice_cmp}
-use Rattle.std.specs.FinMap.{FinMap, empty, get}
+use Rattle.std.specs.FinMap.{FinMap, get}
 use Rattle.flash_names.specs.declared.place.ItemId.{ItemId}
-use Rattle.flash_lru.specs.Lists.{SegmentLists, empty_lists}
+use Rattle.flash_lru.specs.Lists.{SegmentLists}
 use Rattle.flash_lru.specs.Juggle.{load_of as lists_load}
 use Rattle.flash_lru.specs.declared.card.Card.{Card}
 use Rattle.flash_items.specs.declared.item.Item.{Item}

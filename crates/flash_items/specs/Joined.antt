@@ -1,16 +1,15 @@
 -- How `Items` joins the table, the entries and the lists. No public clause cites this module.
-use Rattle.std.specs.Prelude.{◌≡◌, ℕ, suc, ◌+◌, ◌≤◌, ◌<◌, Bool, ◌&&◌, nat_lt, ◌↔◌, List, [], ◌∷◌, length, Option, None, Some, IsSome, option_map, unwrap_or, if◌then◌else◌}
-use Rattle.std.specs.FinMap.{FinMap, get, from_entries}
+use Rattle.std.specs.Prelude.{◌≡◌, ℕ, ◌+◌, ◌≤◌, ◌&&◌, nat_lt, ◌↔◌, List, [], ◌∷◌, length, Option, None, Some, IsSome, unwrap_or, if◌then◌else◌}
+use Rattle.std.specs.FinMap.{get, from_entries}
 use Rattle.slab.specs.Slab.{Slab, slab_len}
 use Rattle.slab.specs.Slab.{get as slot_at}
 use Rattle.flash_names.specs.declared.place.ItemId.{ItemId}
-use Rattle.flash_lru.specs.declared.card.Card.{Card}
 use Rattle.flash_lru.specs.Lists.{SegmentLists, HasCard}
 use Rattle.flash_table.specs.Table.{TableState}
 use Rattle.flash_table.specs.Maps.{Keys}
 use Rattle.flash_items.specs.declared.item.Item.{Item}
 use Rattle.flash_items.specs.declared.item.Entry.{Entry}
-use Rattle.flash_items.specs.Item.{with_key, item_size}
+use Rattle.flash_items.specs.Item.{with_key}
 use Rattle.flash_items.specs.ItemsState.{ItemMap, ItemsState, AreSized}
 
 -- the item of an entry

@@ -1,10 +1,10 @@
 -- What is true of the items at all times.
-use Rattle.std.specs.Prelude.{◌≡◌, ℕ, ◌+◌, ◌≤◌, List, Some, ◌↔◌}
+use Rattle.std.specs.Prelude.{◌≡◌, ℕ, ◌≤◌, List, Some, ◌↔◌}
 use Rattle.std.specs.FinMap.{get}
 use Rattle.flash_names.specs.declared.place.ItemId.{ItemId}
-use Rattle.flash_lru.specs.Lists.{SegmentLists, cards_of, HasCard}
+use Rattle.flash_lru.specs.Lists.{cards_of, HasCard}
 use Rattle.flash_items.specs.declared.item.Item.{Item}
-use Rattle.flash_items.specs.ItemsState.{AreSized, ItemsState, item_at, HasItem, IsAt}
+use Rattle.flash_items.specs.ItemsState.{AreSized, ItemsState, HasItem}
 
 -- a key's id has the item of that key, and an item's key has its id
 pub record IsInStep (s : ItemsState) : Type 0 where

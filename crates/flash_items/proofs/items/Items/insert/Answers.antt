@@ -1,4 +1,4 @@
-use Rattle.std.proofs.Common.{◌≡◌, ℕ, ◌∙◌, ap, sym, subst, length, List, Some, arith}
+use Rattle.std.proofs.Common.{ℕ, ◌∙◌, ap, sym, subst, length, List, Some, arith}
 use Rattle.std.specs.FinMap.{get}
 use Rattle.slab.specs.Slab.{Updates}
 use Rattle.flash_items.specs.declared.item.Entry.{Entry}

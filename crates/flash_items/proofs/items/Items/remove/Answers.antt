@@ -1,7 +1,6 @@
-use Rattle.std.proofs.Common.{◌≡◌, ℕ, ◌<◌, ◌≤◌, ◌∙◌, ap, sym, subst, arith}
+use Rattle.std.proofs.Common.{ℕ, ◌<◌, ◌≤◌, ◌∙◌, ap, sym, subst, arith}
 use Rattle.std.specs.FinMap.{get, remove}
 use Rattle.flash_items.proofs.Steps.{one_value}
-use Rattle.flash_items.specs.declared.item.Item.{Item}
 use Rattle.flash_items.specs.Item.{parts_of}
 use Rattle.flash_items.specs.ItemsState.{ItemsState}
 use Rattle.flash_items.specs.Joined.{spare_of}

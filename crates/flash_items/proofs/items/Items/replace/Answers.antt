@@ -1,7 +1,6 @@
-use Rattle.std.proofs.Common.{ℕ, List, length, ◌∙◌, ap, sym}
-use Rattle.flash_items.specs.declared.item.Parts.{Parts}
+use Rattle.std.proofs.Common.{ℕ, List, length, ◌∙◌, ap}
 use Rattle.flash_items.specs.Item.{size_of}
-use Rattle.flash_items.proofs.Calls.{slot_some, has_card, item_there}
+use Rattle.flash_items.proofs.Calls.{slot_some, has_card}
 use Rattle.flash_items.proofs.Closings.{replaced, was_at}
 use Rattle.flash_items.proofs.items.Items.replace.Goals as goal
 
