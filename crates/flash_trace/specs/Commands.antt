@@ -43,7 +43,8 @@ in_line item_max line b =
 
 -- a byte in a skip: the line feed ends it
 abbrev pub in_skip : ℕ → ℕ → Reader
-in_skip skipped b = if b == 10 then InLine [] else if nat_lt (skipped + 1) LINE_LIMIT then Skipping (skipped + 1) else Ended
+in_skip skipped b =
+    if b == 10 then InLine [] else if nat_lt (skipped + 1) LINE_LIMIT then Skipping (skipped + 1) else Ended
 
 -- the two bytes after a bad block: the skip begins with them, and what is after its end is a line
 abbrev pub after_skip : ℕ → Reader → ℕ → Read
@@ -57,7 +58,14 @@ bad_chunk read = (commands.Refused refusals.BadChunk ∷ read.0, read.1)
 -- the value that a storage line and its block ask to be stored
 abbrev pub put_of : SetLine → List ℕ → Put
 put_of line block =
-    record { key = line.key; mode = modes.Set; flags = line.flags; exptime = line.exptime; compare = None; value = block }
+    record {
+      key = line.key;
+      mode = modes.Set;
+      flags = line.flags;
+      exptime = line.exptime;
+      compare = None;
+      value = block;
+    }
 
 -- the second byte after a block
 abbrev pub behind_block : ℕ → SetLine → List ℕ → ℕ → ℕ → Read

@@ -43,7 +43,11 @@ new_seat = record { reader = InLine []; waiting = []; last = 0; replies = []; cl
 -- before the first step
 abbrev pub first_play : Play
 first_play =
-    record { kept = record { journal = []; cache = first_cache; desk = record { hot = [] } }; printed = []; seats = replicate 16 None }
+    record {
+      kept = record { journal = []; cache = first_cache; desk = record { hot = [] } };
+      printed = [];
+      seats = replicate 16 None;
+    }
 
 -- the store after a call
 abbrev pub after_call : {A : Type 0} → StoreState → Call A → StoreState

@@ -102,7 +102,8 @@ too_long = Some (record { line = 0; why = TooLong })
 -- steps on its lines from 2 to 1,048,577, and a line after these isn't looked at
 abbrev pub steps_fault : ℕ → List (List ℕ) → List ℕ → Option ScriptFault
 steps_fault line [] [] = None
-steps_fault line [] (b ∷ rest) = if nat_lt (MAX_STEPS + 1) line then too_long else Some (record { line = line; why = Short })
+steps_fault line [] (b ∷ rest) =
+    if nat_lt (MAX_STEPS + 1) line then too_long else Some (record { line = line; why = Short })
 steps_fault line (text ∷ more) rest =
     if nat_lt (MAX_STEPS + 1) line then too_long else fault_or line (step_of text) (steps_fault (line + 1) more rest)
 

@@ -24,7 +24,13 @@ kept_of s = record { journal = entries_of s.told; cache = s.cache; desk = s.desk
 -- a session
 abbrev pub seat_of : code.Seat → Seat
 seat_of s =
-    record { reader = reader_of s.session; waiting = waiting_of s.session; last = s.last; replies = s.replies.items; closed = s.closed }
+    record {
+      reader = reader_of s.session;
+      waiting = waiting_of s.session;
+      last = s.last;
+      replies = s.replies.items;
+      closed = s.closed;
+    }
 
 -- the sessions from 1 to 16
 abbrev pub seats_of : code_play.Play → List (Option Seat)
