@@ -187,7 +187,7 @@ fn time_turns<R: Threads + Wait + Sync + Clock>(
             turns: counter.count,
             work,
         }),
-        Closing::Out => Err(io::ErrorKind::Other.into()),
+        Closing::Out(_) => Err(io::ErrorKind::Other.into()),
     }
 }
 
