@@ -6,3 +6,4 @@ mod Slots
 mod Steps
 mod Calls
 mod Closings
+mod HistoryLemmas

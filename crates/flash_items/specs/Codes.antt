@@ -35,14 +35,25 @@ back_to_body (Here value) = refl
 back_to_body (Away place) = refl
 
 abbrev pub body_code : Coded Body
-body_code = code_by (Option (List ℕ) × Place) (coded× (coded_option (coded_list coded_ℕ)) place_code) from_body to_body back_to_body
+body_code =
+    code_by (Option (List ℕ) × Place) (coded× (coded_option (coded_list coded_ℕ)) place_code)
+    from_body to_body back_to_body
 
 abbrev pub item_code : Coded Item
 item_code =
     code_by (List ℕ × (ℕ × (ℕ × (Option ℕ × (Bool × (ℕ × Body))))))
-    (coded× (coded_list coded_ℕ) (coded× coded_ℕ (coded× coded_ℕ (coded× (coded_option coded_ℕ) (coded× coded_bool (coded× coded_ℕ body_code))))))
+    (coded× (coded_list coded_ℕ) (coded× coded_ℕ (coded× coded_ℕ (coded× (coded_option coded_ℕ)
+    (coded× coded_bool (coded× coded_ℕ body_code))))))
     (λ i. (i.key, (i.flags, (i.cas, (i.deadline, (i.fetched, (i.access, i.body)))))))
-    (λ c. record { key = c.0; flags = c.1.0; cas = c.1.1.0; deadline = c.1.1.1.0; fetched = c.1.1.1.1.0; access = c.1.1.1.1.1.0; body = c.1.1.1.1.1.1 })
+    (λ c. record {
+      key = c.0;
+      flags = c.1.0;
+      cas = c.1.1.0;
+      deadline = c.1.1.1.0;
+      fetched = c.1.1.1.1.0;
+      access = c.1.1.1.1.1.0;
+      body = c.1.1.1.1.1.1;
+    })
     (λ _. refl)
 
 abbrev pub card_code : Coded Card
@@ -55,7 +66,8 @@ card_code =
 abbrev pub lists_code : Coded SegmentLists
 lists_code =
     code_by (List Card × (List Card × (List Card × (ℕ × ℕ))))
-    (coded× (coded_list card_code) (coded× (coded_list card_code) (coded× (coded_list card_code) (coded× coded_ℕ coded_ℕ))))
+    (coded× (coded_list card_code) (coded× (coded_list card_code)
+    (coded× (coded_list card_code) (coded× coded_ℕ coded_ℕ))))
     (λ s. (s.hot, (s.warm, (s.cold, (s.spare, s.memory)))))
     (λ p. record { hot = p.0; warm = p.1.0; cold = p.1.1.0; spare = p.1.1.1.0; memory = p.1.1.1.1 })
     (λ _. refl)

@@ -29,7 +29,8 @@ items_in keys slots = from_entries (items_from keys 0 slots)
 -- 1 where the table, the slab and the lists have room for one item more
 abbrev pub spare_of : TableState → Slab Entry → SegmentLists → ℕ
 spare_of t entries lists =
-    if nat_lt 0 t.spare && nat_lt (slab_len entries) entries.capacity && nat_lt entries.vacant_key lists.spare then 1 else 0
+    if nat_lt 0 t.spare && nat_lt (slab_len entries) entries.capacity
+    && nat_lt entries.vacant_key lists.spare then 1 else 0
 
 -- what a contract sees
 abbrev pub state_of : TableState → Slab Entry → SegmentLists → ItemsState
@@ -48,8 +49,10 @@ pub record IsNamed (t : TableState) (number : ℕ) (entry : Entry) (key : List �
 
 -- each entry has a key, each key an entry, each entry a card, and each card the size of its item
 pub record IsJoined (t : TableState) (entries : Slab Entry) (lists : SegmentLists) : Type 0 where
-  pub named : (number : ℕ) (entry : Entry) → slot_at entries number ≡ Some entry → (key : List ℕ) × IsNamed t number entry key
-  pub kept : (key : List ℕ) (number : ℕ) → get t.map key ≡ Some number → (entry : Entry) × (slot_at entries number ≡ Some entry) × (get t.keys entry.key.number ≡ Some key)
+  pub named : (number : ℕ) (entry : Entry) → slot_at entries number ≡ Some entry
+      → (key : List ℕ) × IsNamed t number entry key
+  pub kept : (key : List ℕ) (number : ℕ) → get t.map key ≡ Some number
+      → (entry : Entry) × (slot_at entries number ≡ Some entry) × (get t.keys entry.key.number ≡ Some key)
   pub carded : (id : ItemId) → HasCard lists id ↔ IsSome (slot_at entries id.key)
   pub hot : AreSized (items_in t.keys entries.slots) lists.hot
   pub warm : AreSized (items_in t.keys entries.slots) lists.warm

@@ -8,7 +8,8 @@ use Rattle.flash_items.specs.ItemsState.{AreSized, ItemsState, HasItem}
 
 -- a key's id has the item of that key, and an item's key has its id
 pub record IsInStep (s : ItemsState) : Type 0 where
-  pub item_found : (key : List ℕ) (number : ℕ) → get s.ids key ≡ Some number → (item : Item) × (get s.items number ≡ Some item) × (item.key ≡ key)
+  pub item_found : (key : List ℕ) (number : ℕ) → get s.ids key ≡ Some number
+      → (item : Item) × (get s.items number ≡ Some item) × (item.key ≡ key)
   pub key_found : (number : ℕ) (item : Item) → get s.items number ≡ Some item → get s.ids item.key ≡ Some number
   pub carded : (id : ItemId) → HasCard s.lists id ↔ HasItem s id
   pub sized : AreSized s.items s.lists.hot × AreSized s.items s.lists.warm × AreSized s.items s.lists.cold

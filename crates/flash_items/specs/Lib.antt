@@ -3,4 +3,5 @@ pub mod ItemsState
 pub mod Codes
 pub mod Calls
 pub mod Law
+pub mod History
 pub mod Joined
