@@ -1,0 +1,66 @@
+ghost use Rattle.std.specs.Prelude.{◌≡◌, IfOk};
+ghost use Rattle.flash_items.specs.Item.{IsSmall};
+ghost use Rattle.flash_items.specs.ItemsState.{HasItem};
+
+use super::*;
+use flash_lru::Segment;
+use flash_names::{Blob, ItemId, Key};
+use std::alloc::{AllocError, Global};
+use std::test::Fail;
+
+// HOT and WARM are full with one item.
+const MEMORY: u64 = 100;
+
+// An item of this key, with the value "value".
+fn item_of(alloc: Global, key: Key) -> Result<Item, AllocError>
+    ensures key { IfOk result (λ item. item.key ≡ key) }
+    ensures small { IfOk result (λ item. IsSmall item.body) }
+{
+    Ok(Item {
+        key,
+        flags: 5,
+        cas: 1,
+        deadline: None,
+        fetched: false,
+        access: 0,
+        body: Body::Here(Blob::from_slice(alloc, b"value")?),
+    })
+}
+
+// Items, and the id of one of them.
+#[derive(Drop)]
+struct Sample {
+    items: Items,
+    id: ItemId,
+}
+
+// The item of this key alone.
+fn sample_of(alloc: Global, key: &Key) -> Result<Sample, AllocError>
+    ensures there { IfOk result (λ sample. HasItem sample.items sample.id) }
+{
+    let mut items = Items::open(alloc, MEMORY)?;
+    items.reserve_one(alloc)?;
+    let id = items.insert(item_of(alloc, key.copy())?);
+    Ok(Sample { items, id })
+}
+
+#[test]
+fn finds_an_item(rt: HostRuntime) -> Result<(), Fail> {
+    let alloc = rt.alloc();
+    let key = Key::from_bytes(b"first").ok_or("no key")?;
+    let sample = sample_of(alloc, &key)?;
+    assert_eq!(rt; sample.items.find(&key), Some(sample.id));
+    assert_eq!(rt; sample.items.item(sample.id).parts.flags, 5);
+    Ok(())
+}
+
+#[test]
+fn removes_an_item(rt: HostRuntime) -> Result<(), Fail> {
+    let alloc = rt.alloc();
+    let key = Key::from_bytes(b"first").ok_or("no key")?;
+    let mut sample = sample_of(alloc, &key)?;
+    let parts = sample.items.remove(sample.id);
+    assert_eq!(rt; parts.cas, 1);
+    assert_eq!(rt; sample.items.find(&key), None);
+    Ok(())
+}
