@@ -1,4 +1,4 @@
-ghost use Rattle.std.specs.Prelude.{◌≡◌, ◌<◌, None, Some, OnOk};
+ghost use Rattle.std.specs.Prelude.{◌≡◌, ◌<◌, None, Some, OnOk, IsOk};
 ghost use Rattle.slab.specs.Slab.{get, Updates};
 ghost use Rattle.flash_keys.specs.Room.{IsRoomy};
 ghost use Rattle.flash_keys.specs.Lent.{lent_bytes};
@@ -10,6 +10,8 @@ use std::alloc::AllocError;
 // Takes memory for one key more in a class. A class has at most 2^29 keys.
 pub fn reserve_in<const N: usize>(class: &mut Slab<Cell<N>>) -> Result<(), AllocError>
     ensures room { OnOk result (IsRoomy class.new) }
+    ensures has_room { IsRoomy class.old → IsOk result }
+    ensures room_stays { IsRoomy class.old → IsRoomy class.new }
     ensures kept { class.new ≡ record class.old { capacity = class.new.capacity } }
 {
     if class.vacant_key() > 0x1fff_ffff {

@@ -1,4 +1,4 @@
-ghost use Rattle.std.specs.Prelude.{◌≡◌, ℕ, ◌≤◌, length, None, Some, OnOk};
+ghost use Rattle.std.specs.Prelude.{◌≡◌, ℕ, ◌≤◌, length, None, Some, OnOk, IsOk};
 ghost use Rattle.flash_keys.specs.Names.{named, SameNames, NamesOnly};
 ghost use Rattle.flash_keys.specs.Room.{HasRoom};
 ghost use Rattle.flash_keys.specs.Lent.{lent_bytes};
@@ -52,10 +52,12 @@ impl KeyStore {
     }
 
     /// Takes memory for one key more of any length, or answers that there is none, and then each id names
-    /// what it named.
+    /// what it named. Where there was room, it is `Ok`, and room stays.
     #[tactic(auto, unfolding(crate::specs::Names::named))]
     pub fn reserve_one(&mut self) -> Result<(), AllocError>
         ensures room { OnOk result (HasRoom self.new) }
+        ensures has_room { HasRoom self.old → IsOk result }
+        ensures room_stays { HasRoom self.old → HasRoom self.new }
         ensures kept { SameNames self.old self.new }
     {
         reserve_in(&mut self.to_14)?;
