@@ -1,3 +1,4 @@
+mod AtHome
 mod ById
 mod ChainSlots
 mod Dividing
@@ -11,6 +12,7 @@ mod Loops
 mod Maps
 mod Moved
 mod Removed
+mod Slots
 mod TableGrown
 mod TableInserted
 mod TableReady

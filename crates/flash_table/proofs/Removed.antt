@@ -48,7 +48,7 @@ module _ (store next : Classes) (es : List Entry) (sound : IsSound store es) (k 
         | inr other ↦ same_pair store next (entry_at es i) other.2
       ]
 
-  pairs_now : (i : ℕ) → (key_and_item next (entry_at (set es k vacant) i) ≡ key_and_item store (entry_at (set es k vacant) i)) × (id_and_key next (entry_at (set es k vacant) i) ≡ id_and_key store (entry_at (set es k vacant) i))
+  pub pairs_now : (i : ℕ) → (key_and_item next (entry_at (set es k vacant) i) ≡ key_and_item store (entry_at (set es k vacant) i)) × (id_and_key next (entry_at (set es k vacant) i) ≡ id_and_key store (entry_at (set es k vacant) i))
   pairs_now i =
       elim (updated es k vacant i inside) [
         | inl here ↦ (

@@ -1,5 +1,5 @@
 -- A table after a home is added.
-use Rattle.std.proofs.Common.{◌≡◌, ℕ, zero, suc, ◌+◌, ◌<◌, ◌≤◌, List, [], ◌∷◌, ◌++◌, length, length-append, inl, inr, refl, sym, ap, subst, ◌∙◌, arith}
+use Rattle.std.proofs.Common.{◌≡◌, ◌≢◌, ℕ, zero, suc, ◌+◌, ◌<◌, ◌≤◌, List, [], ◌∷◌, ◌++◌, length, length-append, inl, inr, refl, sym, ap, subst, ◌∙◌, arith}
 use Rattle.std.specs.Cmp.{nat_cmp_total}
 use Rattle.std.specs.Cmp.Lexicographic.{nat_list_cmp_total}
 use Rattle.std.specs.FinMap as finite
@@ -15,12 +15,14 @@ use Rattle.flash_table.specs.Growth.{going, IsToDivide, IsDivided}
 use Rattle.flash_table.specs.Held.{key_and_item, id_and_key, IsRight}
 use Rattle.flash_table.specs.Home.{split_home, power as power_of}
 use Rattle.flash_table.specs.Maps.{items_in, keys_in}
+use Rattle.flash_table.specs.Slots.{slots_in, slot_at}
 use Rattle.flash_table.specs.Table.{IsTable}
 use Rattle.flash_table.proofs.Dividing.{from_inside}
 use Rattle.flash_table.proofs.Flat.{flat_push}
 use Rattle.flash_table.proofs.Held.{equal_or_not, vacant_pair}
 use Rattle.flash_table.proofs.Look.{look_blank}
 use Rattle.flash_table.proofs.Maps.{bytes_same, get_items, get_keys}
+use Rattle.flash_table.proofs.Slots.{slot_seen}
 use Rattle.flash_table.proofs.TableInserted.{each_empty}
 use Rattle.flash_table.proofs.Widened.{blank_at}
 
@@ -119,3 +121,10 @@ module _ (store : Classes) (chains : List (List Entry)) (power last spare count 
       empties = λ h inside away. each h inside;
       ready = λ more. let was = table.ready more in record { empty = each last (omega (arith, table.last_inside, one_more)); room = was.room; low = was.low };
     }
+
+    pub others_kept : (h i : ℕ) → h ≢ split_home (length chains) → h ≢ length chains → slot_at (slots_in store now) h i ≡ slot_at (slots_in store chains) h i
+    others_kept h i away other =
+        slot_seen store now h i
+        ∙ ap (λ (c : List Entry). key_and_item store (entry_at c i)) (divided.others h (λ is. away (is ∙ split)) other)
+        ∙ ap (key_and_item store) (push_at chains fresh none h i)
+        ∙ sym (slot_seen store chains h i)

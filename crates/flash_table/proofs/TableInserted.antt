@@ -1,7 +1,8 @@
 -- A table after a key is inserted.
-use Rattle.std.proofs.Common.{◌≡◌, ℕ, ◌+◌, ◌-◌, ◌<◌, ◌≤◌, cond, List, length, set, length-set, inl, inr, Option, Some, None, sym, ap, subst, ◌∙◌, arith}
+use Rattle.std.proofs.Common.{◌≡◌, ◌≢◌, ℕ, ◌+◌, ◌-◌, ◌<◌, ◌≤◌, cond, List, length, set, length-set, inl, inr, Option, Some, None, sym, ap, subst, ◌∙◌, arith}
 use Rattle.std.specs.Prelude.{is_some}
-use Rattle.std.specs.Option.{unwrap_or}
+use Rattle.std.specs.Option.{unwrap_or, IsSome}
+use Rattle.std.proofs.lemmas.List.{length-map}
 use Rattle.std.specs.Cmp.{nat_cmp_total}
 use Rattle.std.specs.Cmp.Lexicographic.{nat_list_cmp_total}
 use Rattle.std.specs.FinMap as finite
@@ -13,16 +14,18 @@ use Rattle.flash_table.specs.declared.entry.Entry.{Entry}
 use Rattle.flash_table.specs.Chains.{chain_of, with_entry, HasEmpty, AreChains, IsHomed}
 use Rattle.flash_table.specs.Entries.{vacant, entry_at}
 use Rattle.flash_table.specs.Flat.{flat}
-use Rattle.flash_table.specs.Held.{key_and_item, id_and_key, HasKey, IsSound}
+use Rattle.flash_table.specs.Held.{key_and_item, id_and_key, HasKey, IsRight, IsSound}
 use Rattle.flash_table.specs.Home.{home, power as power_of}
 use Rattle.flash_table.specs.Maps.{items_in, keys_in}
+use Rattle.flash_table.specs.Slots.{Slot, slots_in, slot_at, with_slot, FillsFirst}
 use Rattle.flash_table.specs.Table.{IsTable}
 use Rattle.flash_table.proofs.ChainSlots.{in_flat, slots_with, still_empty}
 use Rattle.flash_table.proofs.Flat.{offset, flat_at, flat_set, flat_inside}
-use Rattle.flash_table.proofs.Held.{equal_or_not, vacant_pair, full_pair, id_is}
+use Rattle.flash_table.proofs.Held.{equal_or_not, empty_pair, vacant_pair, full_pair, id_is}
 use Rattle.flash_table.proofs.Inserted as inserted
 use Rattle.flash_table.proofs.Look.{look_nowhere}
 use Rattle.flash_table.proofs.Maps.{get_keys}
+use Rattle.flash_table.proofs.Slots.{chain_seen, slot_seen, slots_written, slots_same}
 
 -- where the last insert has left each chain with an empty slot, each has one
 pub each_empty : (store : Classes) (chains : List (List Entry)) (power last spare count h : ℕ) → IsTable store chains power last spare count → 1 ≤ spare → h < length chains → HasEmpty (chain_of chains h)
@@ -111,3 +114,37 @@ module _ (store next : Classes) (chains : List (List Entry)) (power last spare c
     empties = λ g g_inside away. still_empty chains h slot e g home_inside away (each_empty store chains power last spare count g table some (omega (arith, long, g_inside)));
     ready = λ more. absurd (omega (arith, more, table.one_spare));
   }
+
+  -- ---- what is seen of the slots
+
+  same_pairs : (g i : ℕ) → key_and_item next (entry_at (chain_of chains g) i) ≡ key_and_item store (entry_at (chain_of chains g) i)
+  same_pairs g i =
+      let at = in_flat chains g i in
+      ap (key_and_item next) (sym at.1) ∙ (inserted.pairs_as_before store next (flat chains) sound e key index fresh names has index_inside index_empty absent at.0).0 ∙ ap (key_and_item store) at.1
+
+  some_slot : (i : ℕ) → (entry_at (chain_of chains h) i).tag ≢ 0 → IsSome (slot_at (slots_in store chains) h i)
+  some_slot i tagged =
+      let at = in_flat chains h i in
+      let right : IsRight store (entry_at (chain_of chains h) i) = subst (IsRight store) at.1 (sound.right at.0) in
+      elim right [
+        | inl none ↦ absurd (tagged none)
+        | inr other ↦ ap is_some (slot_seen store chains h i ∙ (full_pair store (entry_at (chain_of chains h) i) other.0 other.1).0)
+      ]
+
+  slots_are : slots_in next (with_entry chains h slot e) ≡ with_slot (slots_in store chains) h slot (Some (key, e.item))
+  slots_are =
+      slots_written next chains h slot e
+      ∙ ap (λ (cs : List (List Slot)). with_slot cs h slot (key_and_item next e)) (slots_same store next chains same_pairs)
+      ∙ ap (λ (s : Slot). with_slot (slots_in store chains) h slot s) (full_pair next e key has).0
+
+  fills_there : ((j : ℕ) → j < slot → (entry_at (chain_of chains h) j).tag ≢ 0) → FillsFirst (slots_in store chains) (slots_in next (with_entry chains h slot e)) h key e.item
+  fills_there before = record {
+    slot = slot;
+    inside = omega (arith, inside, ap length (chain_seen store chains h), length-map (chain_of chains h) (key_and_item store));
+    empty = slot_seen store chains h slot ∙ (empty_pair store (entry_at (chain_of chains h) slot) empty).0;
+    first = λ i less. some_slot i (before i less);
+    filled = slots_are;
+  }
+
+  pub fills_first : ((j : ℕ) → j < slot → (entry_at (chain_of chains h) j).tag ≢ 0) → FillsFirst (slots_in store chains) (slots_in next (with_entry chains h slot e)) (home (length chains) (hash_of key)) key e.item
+  fills_first before = subst (λ (g : ℕ). FillsFirst (slots_in store chains) (slots_in next (with_entry chains h slot e)) g key e.item) (sym at_home) (fills_there before)

@@ -14,11 +14,13 @@ use Rattle.flash_table.specs.Flat.{flat}
 use Rattle.flash_table.specs.Held.{key_and_item, id_and_key, IsRight, IsSound}
 use Rattle.flash_table.specs.Home.{power as power_of}
 use Rattle.flash_table.specs.Maps.{items_in, keys_in}
+use Rattle.flash_table.specs.Slots.{slots_in, slot_at}
 use Rattle.flash_table.specs.Table.{IsTable, IsReady}
 use Rattle.flash_table.proofs.ChainSlots.{chain_set}
 use Rattle.flash_table.proofs.Held.{same_pair}
 use Rattle.flash_table.proofs.Look.{look_same}
 use Rattle.flash_table.proofs.Maps.{bytes_same, get_items, get_keys}
+use Rattle.flash_table.proofs.Slots.{slot_seen}
 use Rattle.flash_table.proofs.Widened as widened
 
 -- ---- the same names
@@ -64,6 +66,7 @@ pub record IsWider (store : Classes) (old new : List (List Entry)) (h : ℕ) : T
   pub keys : keys_in store (flat new) ≡ keys_in store (flat old)
   pub empty : HasEmpty (chain_of new h)
   pub others : (g : ℕ) → g ≢ h → chain_of new g ≡ chain_of old g
+  pub entries : (g i : ℕ) → entry_at (chain_of new g) i ≡ entry_at (chain_of old g) i
 
 other_chains : (old : List (List Entry)) (h : ℕ) → h < length old → (g : ℕ) → g ≢ h → chain_of (with_group old h) g ≡ chain_of old g
 other_chains old h inside g away =
@@ -80,11 +83,12 @@ with_group_is store old h are inside = record {
   keys = widened.keys_are store old are h inside;
   empty = widened.empty_there store old are h inside;
   others = other_chains old h inside;
+  entries = widened.same_at store old are h inside;
 }
 
 pub room_is : (store : Classes) (old new : List (List Entry)) (h : ℕ) → AreChains store old → h < length old → RoomMade old new h → IsWider store old new h
 room_is store old new h are inside (inl same) =
-    subst (λ (cs : List (List Entry)). IsWider store old cs h) (sym same.0) (record { are = are; long = refl; items = refl; keys = refl; empty = same.1; others = λ g away. refl })
+    subst (λ (cs : List (List Entry)). IsWider store old cs h) (sym same.0) (record { are = are; long = refl; items = refl; keys = refl; empty = same.1; others = λ g away. refl; entries = λ g i. refl })
 room_is store old new h are inside (inr wider) = subst (λ (cs : List (List Entry)). IsWider store old cs h) (sym wider) (with_group_is store old h are inside)
 
 module _ (store next : Classes) (old new : List (List Entry)) (power last spare count : ℕ) (table : IsTable store old power last spare count) (same : SameNames store next) (made : RoomMade old new last) where
@@ -113,3 +117,10 @@ module _ (store next : Classes) (old new : List (List Entry)) (power last spare 
 
   pub ready_now : HasRoom next → count < 2 ^ 64 - 1 → IsReady next (chain_of new last) count
   ready_now room low = record { empty = wider.empty; room = room; low = low }
+
+  pub slots_kept : (g i : ℕ) → slot_at (slots_in next new) g i ≡ slot_at (slots_in store old) g i
+  slots_kept g i =
+      slot_seen next new g i
+      ∙ (same_pair store next (entry_at (chain_of new g) i) (same (entry_at (chain_of new g) i).id.number)).0
+      ∙ ap (key_and_item store) (wider.entries g i)
+      ∙ sym (slot_seen store old g i)

@@ -15,10 +15,12 @@ use Rattle.flash_table.specs.Flat.{flat}
 use Rattle.flash_table.specs.Held.{key_and_item, HasKey, IsSound}
 use Rattle.flash_table.specs.Home.{home, power as power_of}
 use Rattle.flash_table.specs.Maps.{items_in, keys_in}
+use Rattle.flash_table.specs.Slots.{Slot, slots_in, with_slot, Empties}
 use Rattle.flash_table.specs.Table.{IsTable, IsReady}
-use Rattle.flash_table.proofs.ChainSlots.{slots_with, still_empty, empty_now, index, index_inside, at_index, has_key, flat_with, item_found}
-use Rattle.flash_table.proofs.Held.{equal_or_not, vacant_pair, unnamed_pair, same_pair}
+use Rattle.flash_table.proofs.ChainSlots.{in_flat, slots_with, still_empty, empty_now, index, index_inside, at_index, has_key, flat_with, item_found}
+use Rattle.flash_table.proofs.Held.{equal_or_not, full_pair, vacant_pair, unnamed_pair, same_pair}
 use Rattle.flash_table.proofs.Removed as removed
+use Rattle.flash_table.proofs.Slots.{slot_seen, slots_written, slots_same}
 
 module _ (store next : Classes) (chains : List (List Entry)) (power last spare count : ℕ) (table : IsTable store chains power last spare count) (key : List ℕ) (h slot : ℕ)
     (at : IsSlotOf store chains key h slot) (names : NamesOnly store next (entry_at (chain_of chains h) slot).id.number None) (room : HasRoom store → HasRoom next) where
@@ -127,3 +129,24 @@ module _ (store next : Classes) (chains : List (List Entry)) (power last spare c
     empties = λ g inside away. empty_too g (omega (arith, long, inside)) (table.empties g (omega (arith, long, inside)) away);
     ready = ready_now;
   }
+
+  -- ---- what is seen of the slots
+
+  same_pairs : (g i : ℕ) → key_and_item next (entry_at (chain_of now g) i) ≡ key_and_item store (entry_at (chain_of now g) i)
+  same_pairs g i =
+      let there = in_flat now g i in
+      let entry : entry_at (set (flat chains) k vacant) there.0 ≡ entry_at (chain_of now g) i = ap (λ (es : List Entry). entry_at es there.0) (sym flat_is) ∙ there.1 in
+      ap (key_and_item next) (sym entry) ∙ (removed.pairs_now store next (flat chains) table.chained.sound k key k_inside k_has k_names there.0).0 ∙ ap (key_and_item store) entry
+
+  slots_are : slots_in next now ≡ with_slot (slots_in store chains) h slot None
+  slots_are =
+      slots_same store next now same_pairs
+      ∙ slots_written store chains h slot vacant
+      ∙ ap (λ (s : Slot). with_slot (slots_in store chains) h slot s) (vacant_pair store).0
+
+  pub empties : Empties (slots_in store chains) (slots_in next now) (home (length chains) (hash_of key)) key (entry_at (chain_of chains h) slot).item
+  empties =
+      let pair = (full_pair store (entry_at (chain_of chains h) slot) key at.has).0 in
+      subst (λ (g : ℕ). Empties (slots_in store chains) (slots_in next now) g key (entry_at (chain_of chains h) slot).item)
+      (sym (table.chained.homed h slot key (entry_at (chain_of chains h) slot).item pair))
+      (record { slot = slot; had = slot_seen store chains h slot ∙ pair; emptied = slots_are })

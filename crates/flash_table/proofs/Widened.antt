@@ -66,7 +66,7 @@ module _ (store : Classes) (chains : List (List Entry)) (are : AreChains store c
       finite.same_map nat_cmp_total nat_cmp-IsAntisymmetric (keys_in store (flat wider)) (keys_in store (flat chains))
       (λ q. get_keys store (flat wider) q ∙ look_wider nat_cmp_total nat_cmp-IsAntisymmetric (id_and_key store) (vacant_pair store).1 chains h 16 q ∙ sym (get_keys store (flat chains) q))
 
-  same_at : (g i : ℕ) → entry_at (chain_of wider g) i ≡ entry_at (chain_of chains g) i
+  pub same_at : (g i : ℕ) → entry_at (chain_of wider g) i ≡ entry_at (chain_of chains g) i
   same_at g i =
       elim (chain_set chains h (chain_of chains h ++ vacants 16) g inside) [
         | inl here ↦ ap (λ (c : List Entry). entry_at c i) here.1 ∙ blank_at (chain_of chains h) (vacants 16) (vacants_at 16) i ∙ ap (λ (f : ℕ). entry_at (chain_of chains f) i) (sym here.0)

@@ -1,3 +1,4 @@
+pub mod AtHome
 pub mod Chains
 pub mod Entries
 pub mod Flat
@@ -6,4 +7,5 @@ pub mod Held
 pub mod Home
 pub mod Maps
 pub mod Pairs
+pub mod Slots
 pub mod Table

@@ -1,31 +1,45 @@
 -- What a table is seen as, and what is true of each table.
 use Rattle.std.specs.Prelude.{◌≡◌, ◌≢◌, ℕ, ◌-◌, ◌^◌, ◌<◌, ◌≤◌, List, length, refl, Some, ◌+◌, ◌*◌, nat_le, nat_lt, ◌&&◌, if◌then◌else◌, IsSome}
-use Rattle.std.specs.Coded.{Coded, code_by, coded×, coded_ℕ, coded_list}
+use Rattle.std.specs.Coded.{Coded, code_by, coded×, coded_ℕ, coded_list, coded_option}
 use Rattle.std.specs.FinMap.{code, len, get, remove}
 use Rattle.flash_keys.specs.Classes.{Classes}
 use Rattle.flash_keys.specs.Room.{HasRoom}
+use Rattle.flash_names.specs.KeyHash.{hash_of}
 use Rattle.flash_table.specs.declared.entry.Entry.{Entry}
 use Rattle.flash_table.specs.Chains.{chain_of, HasEmpty, AreChains}
 use Rattle.flash_table.specs.Flat.{flat}
-use Rattle.flash_table.specs.Home.{power}
+use Rattle.flash_table.specs.Home.{home, power}
+use Rattle.flash_table.specs.Slots.{Slot, slots_in, Empties}
 use Rattle.flash_table.specs.Maps.{Items, Keys, items_in, keys_in}
 
--- each key's item, each id's key, how many keys fit with no memory taken, and the number of homes
+-- each key's item, each id's key, how many keys fit with no memory taken, the number of homes, and the slots of the
+-- chain of each home
 pub record TableState : Type 0 where
   pub map : Items
   pub keys : Keys
   pub spare : ℕ
   pub homes : ℕ
+  pub chains : List (List Slot)
+
+-- the slots of chains are stored as lists of pairs
+abbrev slots_code : Coded (List (List Slot))
+slots_code = coded_list (coded_list (coded_option (coded× (coded_list coded_ℕ) coded_ℕ)))
 
 -- a state is stored as the tuple of its fields
 abbrev pub state_code : Coded TableState
 state_code =
     code_by
-    (Items × (Keys × (ℕ × ℕ)))
-    (coded× (code (coded_list coded_ℕ) coded_ℕ) (coded× (code coded_ℕ (coded_list coded_ℕ)) (coded× coded_ℕ coded_ℕ)))
-    (λ s. (s.map, (s.keys, (s.spare, s.homes))))
-    (λ p. record { map = p.0; keys = p.1.0; spare = p.1.1.0; homes = p.1.1.1 })
+    (Items × (Keys × (ℕ × (ℕ × List (List Slot)))))
+    (coded×
+    (code (coded_list coded_ℕ) coded_ℕ)
+    (coded× (code coded_ℕ (coded_list coded_ℕ)) (coded× coded_ℕ (coded× coded_ℕ slots_code))))
+    (λ s. (s.map, (s.keys, (s.spare, (s.homes, s.chains)))))
+    (λ p. record { map = p.0; keys = p.1.0; spare = p.1.1.0; homes = p.1.1.1.0; chains = p.1.1.1.1 })
     (λ _. refl)
+
+-- the home of a key among the homes of a table
+abbrev pub home_in : TableState → List ℕ → ℕ
+home_in t key = home t.homes (hash_of key)
 
 -- the id of a key is no longer there, and the others are
 pub record Forgets (old new : Keys) (key : List ℕ) : Type 0 where
@@ -39,6 +53,7 @@ pub record Takes (old new : TableState) (id item : ℕ) : Type 0 where
   pub named : get old.keys id ≡ Some key
   pub had : get old.map key ≡ Some item
   pub removed : new.map ≡ remove old.map key
+  pub emptied : Empties old.chains new.chains (home_in old key) key item
 
 -- the key of each id is in the table
 abbrev pub IdsHaveKeys : TableState → Type 0
@@ -57,6 +72,7 @@ state_of store chains spare = record {
   keys = keys_in store (flat chains);
   spare = spare;
   homes = length chains;
+  chains = slots_in store chains;
 }
 
 -- one key more fits: the chain of the last insert has an empty slot, and the keys have room

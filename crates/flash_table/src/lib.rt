@@ -8,7 +8,8 @@
 //! `reserve_one` takes the memory for one key more; `insert` then takes none. A home is added where the keys
 //! are at least 14 times the homes, and only one other home is divided for it: nothing is rehashed as a whole.
 //!
-//! Proved: each call leaves exactly the stated finite maps of keys and of ids, growth included.
+//! Proved: each call leaves exactly the stated finite maps of keys and of ids, growth included. Each key is in one
+//! slot, in the chain of its home; `insert` uses the first empty slot there, and growth moves keys of one home only.
 #![tactic(auto)]
 
 mod chain;

@@ -1,7 +1,9 @@
 ghost use Rattle.std.specs.Prelude.{◌≡◌, ◌≢◌, ◌+◌, ◌<◌, ◌≤◌, ◌^◌, ℕ, OnOk, OnErr, IfOk, Some, None, IsSome, IfSome, IfNone, List};
 ghost use Rattle.std.specs.Option.{option_map};
 ghost use Rattle.std.specs.FinMap as finite;
-ghost use Rattle.flash_table.specs.Table.{TableState, Forgets, Takes, HasOneId, IdsHaveKeys, homes_after};
+ghost use Rattle.flash_table.specs.AtHome.{HasKeysAtHome, SameSlots, DividesOne};
+ghost use Rattle.flash_table.specs.Slots.{FillsFirst, Empties};
+ghost use Rattle.flash_table.specs.Table.{TableState, Forgets, Takes, HasOneId, IdsHaveKeys, homes_after, home_in};
 
 use crate::chain::Chain;
 use crate::chains::{
@@ -74,11 +76,13 @@ impl Table {
     }
 
     /// Takes the memory for one key more of any length, and adds a home where the keys are at least 14 times
-    /// the homes, up to 2^32 - 1 homes. Where it is out of memory, the keys and the homes are as before.
+    /// the homes, up to 2^32 - 1 homes. Only keys of the home that is divided move to it. Where it is out of memory,
+    /// the keys, the homes and the slots are as before.
     pub fn reserve_one(&mut self, alloc: Global) -> Result<(), AllocError>
         ensures spare { OnOk result (self.new.spare ≡ 1) }
         ensures homes { OnOk result (self.new.homes ≡ homes_after self.old) }
         ensures refused { OnErr result (self.new.homes ≡ self.old.homes) }
+        ensures slots { DividesOne self.old self.new }
         ensures kept_spare { self.old.spare ≤ self.new.spare }
         ensures map { self.new.map ≡ self.old.map }
         ensures keys { self.new.keys ≡ self.old.keys }
@@ -91,6 +95,7 @@ impl Table {
     fn make_ready(&mut self) -> Result<(), AllocError>
         ensures spare { OnOk result (self.new.spare ≡ 1) }
         ensures kept_spare { self.old.spare ≤ self.new.spare }
+        ensures slots { SameSlots self.old self.new }
         ensures homes { self.new.homes ≡ self.old.homes }
         ensures map { self.new.map ≡ self.old.map }
         ensures keys { self.new.keys ≡ self.old.keys }
@@ -112,6 +117,7 @@ impl Table {
         requires { 1 ≤ self.old.spare }
         ensures homes { OnOk result (self.new.homes ≡ homes_after self.old) }
         ensures refused { OnErr result (self.new.homes ≡ self.old.homes) }
+        ensures slots { DividesOne self.old self.new }
         ensures spare { self.new.spare ≡ self.old.spare }
         ensures map { self.new.map ≡ self.old.map }
         ensures keys { self.new.keys ≡ self.old.keys }
@@ -129,6 +135,7 @@ impl Table {
         requires few { self.old.homes < 4294967295 }
         ensures homes { OnOk result (self.new.homes ≡ self.old.homes + 1) }
         ensures refused { OnErr result (self.new.homes ≡ self.old.homes) }
+        ensures slots { DividesOne self.old self.new }
         ensures spare { self.new.spare ≡ self.old.spare }
         ensures map { self.new.map ≡ self.old.map }
         ensures keys { self.new.keys ≡ self.old.keys }
@@ -144,13 +151,15 @@ impl Table {
         Ok(())
     }
 
-    /// Puts a key that isn't in the table, with its item, where `reserve_one` took the memory. The id that
-    /// it answers names the key until the key is taken away, and named nothing before.
+    /// Puts a key that isn't in the table, with its item, into the first empty slot of the chain of its home, where
+    /// `reserve_one` took the memory. The id that it answers names the key until the key is taken away, and named
+    /// nothing before.
     pub fn insert(&mut self, key: &Key, item: ItemId) -> KeyId
         requires spare { 1 ≤ self.old.spare }
         requires absent { finite.get self.old.map key.now ≡ None }
         requires item { item.key < 2 ^ 32 }
         ensures map { self.new.map ≡ finite.insert self.old.map key.now item.key }
+        ensures slot { FillsFirst self.old.chains self.new.chains (home_in self.old key.now) key.now item.key }
         ensures keys { self.new.keys ≡ finite.insert self.old.keys result.number key.now }
         ensures fresh { finite.get self.old.keys result.number ≡ None }
         ensures spare { self.new.spare + 1 ≡ self.old.spare }
@@ -177,6 +186,8 @@ impl Table {
         ensures item { option_map (λ item. item.key) result ≡ finite.get self.old.map key.now }
         ensures map { self.new.map ≡ finite.remove self.old.map key.now }
         ensures keys { IfSome result (λ _. Forgets self.old.keys self.new.keys key.now) }
+        ensures slot { IfSome result (λ item.
+            Empties self.old.chains self.new.chains (home_in self.old key.now) key.now item.key) }
         ensures absent { IfNone result (self.new ≡ self.old) }
         ensures spare { self.new.spare ≡ self.old.spare }
         ensures homes { self.new.homes ≡ self.old.homes }
@@ -220,6 +231,13 @@ impl Table {
     pub fn ids_match(&self)
         ensures each { IdsHaveKeys self.now }
         ensures one { (key : List ℕ) (item : ℕ) → finite.get self.now.map key ≡ Some item → HasOneId self.now.keys key }
+    {
+        let _ = &self.power;
+    }
+
+    /// Each key is in one slot, in the chain of its home, with its item. It does nothing.
+    pub fn keys_are_at_home(&self)
+        ensures { HasKeysAtHome self.now }
     {
         let _ = &self.power;
     }

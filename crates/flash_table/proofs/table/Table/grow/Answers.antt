@@ -1,11 +1,12 @@
 use Rattle.std.proofs.Common.{◌≡◌, ◌+◌, ◌-◌, ◌<◌, ◌≤◌, ℕ, List, [], ◌∷◌, ◌++◌, length, ap, sym, subst, ◌∙◌, arith}
 use Rattle.flash_table.specs.declared.entry.Entry.{Entry}
+use Rattle.flash_table.specs.AtHome.{DividesOne}
 use Rattle.flash_table.specs.Chains.{chain_of}
 use Rattle.flash_table.specs.Growth.{going, IsToDivide, IsDivided}
 use Rattle.flash_table.specs.Home.{split_home, power}
-use Rattle.flash_table.specs.Table.{TableState}
+use Rattle.flash_table.specs.Table.{TableState, state_of}
 use Rattle.flash_table.proofs.Homes.{power_fits}
-use Rattle.flash_table.proofs.TableGrown.{to_divide, items_kept, keys_kept, table_now}
+use Rattle.flash_table.proofs.TableGrown.{to_divide, items_kept, keys_kept, others_kept, one_more, table_now}
 use Rattle.flash_table.proofs.table.Table.grow.Goals as goal
 
 pub overflow_sub-from : goal.overflow_sub-from
@@ -78,3 +79,24 @@ returns-clause-keys c =
     subst (λ (m : ℕ). IsDivided store (chains ++ c.in_ok-fresh.fresh ∷ []) c.divide.new.chains.items m from) (sym long)
     (subst (λ (cs : List (List Entry)). IsDivided store cs c.divide.new.chains.items c.len-homes.result from) c.in_ok-push.ensures.items c.divide.ensures) in
     keys_kept store chains c.self.inside.power c.self.inside.last c.self.inside.spare c.self.inside.count c.self.invariant some few c.in_ok-fresh.fresh c.in_ok-fresh.ensures.free from split room c.divide.new.chains.items divided ∙ ap (λ (s : TableState). s.keys) c.self.view_is
+
+pub returns-clause-slots : goal.returns-clause-slots
+returns-clause-slots c =
+    let store = c.self.inside.keys in
+    let chains = c.self.inside.chains.items in
+    let from = c.len-homes.result - c.self.inside.power in
+    let fits = power_fits (length chains) c.self.invariant.chained.some in
+    let long : length chains ≡ c.len-homes.result = omega arith in
+    let some : 1 ≤ c.self.inside.spare = subst (λ (s : TableState). 1 ≤ s.spare) (sym c.self.view_is) c.requires.spare in
+    let few : length chains < 4294967295 = subst (λ (s : TableState). s.homes < 4294967295) (sym c.self.view_is) c.requires.few in
+    let split : from ≡ split_home (length chains) = omega (arith, c.self.invariant.powered) in
+    let room : going store (length chains + 1) (length chains) (chain_of chains from) < length c.in_ok-fresh.fresh = omega (arith, c.count_leaving-leaving.ensures, c.in_ok-fresh.ensures.long) in
+    let divided : IsDivided store (chains ++ c.in_ok-fresh.fresh ∷ []) c.divide.new.chains.items (length chains) from =
+    subst (λ (m : ℕ). IsDivided store (chains ++ c.in_ok-fresh.fresh ∷ []) c.divide.new.chains.items m from) (sym long)
+    (subst (λ (cs : List (List Entry)). IsDivided store cs c.divide.new.chains.items c.len-homes.result from) c.in_ok-push.ensures.items c.divide.ensures) in
+    let new : TableState = state_of store c.divide.new.chains.items c.self.inside.spare in
+    subst (λ (s : TableState). DividesOne s new) c.self.view_is
+    (record {
+      others = others_kept store chains c.self.inside.power c.self.inside.last c.self.inside.spare c.self.inside.count c.self.invariant some few c.in_ok-fresh.fresh c.in_ok-fresh.ensures.free from split room c.divide.new.chains.items divided;
+      kept = λ same. absurd (omega (arith, same, one_more store chains c.self.inside.power c.self.inside.last c.self.inside.spare c.self.inside.count c.self.invariant some few c.in_ok-fresh.fresh c.in_ok-fresh.ensures.free from split room c.divide.new.chains.items divided));
+    })

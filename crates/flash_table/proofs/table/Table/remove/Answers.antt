@@ -1,15 +1,18 @@
-use Rattle.std.proofs.Common.{◌≡◌, ◌-◌, ℕ, List, Some, None, ap, sym, subst, ◌∙◌}
+use Rattle.std.proofs.Common.{◌≡◌, ◌-◌, ℕ, List, length, Some, None, ap, sym, subst, ◌∙◌}
 use Rattle.std.specs.FinMap as finite
+use Rattle.flash_names.specs.KeyHash.{hash_of}
 use Rattle.flash_table.specs.declared.entry.Entry.{Entry}
-use Rattle.flash_table.specs.Chains.{chain_of, IsSlotOf}
-use Rattle.flash_table.specs.Entries.{entry_at}
+use Rattle.flash_table.specs.Chains.{chain_of, with_entry, IsSlotOf}
+use Rattle.flash_table.specs.Entries.{vacant, entry_at}
 use Rattle.flash_table.specs.Flat.{flat}
 use Rattle.flash_table.specs.Maps.{items_in, keys_in}
+use Rattle.flash_table.specs.Home.{home}
+use Rattle.flash_table.specs.Slots.{slots_in, Empties}
 use Rattle.flash_table.specs.Table.{TableState, IsTable}
 use Rattle.flash_table.proofs.ById.{slot_names}
 use Rattle.flash_table.proofs.ChainSlots.{item_found}
 use Rattle.flash_table.proofs.Maps.{remove_absent}
-use Rattle.flash_table.proofs.TableRemoved.{table_now, map_is, keys_are, some_counted}
+use Rattle.flash_table.proofs.TableRemoved.{table_now, map_is, keys_are, some_counted, empties}
 use Rattle.flash_table.proofs.table.Table.remove.Goals as goal
 
 pub overflow_sub-self : goal.overflow_sub-self
@@ -47,6 +50,20 @@ returns-in-Some-clause-item c =
     ap (λ (n : ℕ). Some n) c.take_out-item.ensures.item
     ∙ sym (item_found store chains c.self.invariant.chained key h slot at)
     ∙ ap (λ (s : TableState). finite.get s.map key) c.self.view_is
+
+pub returns-in-Some-clause-slot : goal.returns-in-Some-clause-slot
+returns-in-Some-clause-slot c =
+    let store = c.self.inside.keys in
+    let next = c.take_out-item.new.keys in
+    let chains = c.self.inside.chains.items in
+    let key = c.args.key.now in
+    let h = c.in-Some.home in
+    let slot = c.in-Some.slot in
+    let at : IsSlotOf store chains key h slot = subst (λ (k : List ℕ). IsSlotOf store chains k h slot) c.bytes.ensures.same c.in-Some.ensures.found in
+    subst (λ (s : TableState). Empties s.chains (slots_in next c.take_out-item.new.chains.items) (home s.homes (hash_of key)) key c.take_out-item.result) c.self.view_is
+    (subst (λ (cs : List (List Entry)). Empties (slots_in store chains) (slots_in next cs) (home (length chains) (hash_of key)) key c.take_out-item.result) (sym c.take_out-item.ensures.chains)
+    (subst (λ (x : ℕ). Empties (slots_in store chains) (slots_in next (with_entry chains h slot vacant)) (home (length chains) (hash_of key)) key x) (sym c.take_out-item.ensures.item)
+    (empties store next chains c.self.inside.power c.self.inside.last c.self.inside.spare c.self.inside.count c.self.invariant key h slot at c.take_out-item.ensures.names c.take_out-item.ensures.room)))
 
 pub returns-in-Some-clause-map : goal.returns-in-Some-clause-map
 returns-in-Some-clause-map c =
