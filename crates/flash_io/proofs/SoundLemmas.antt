@@ -71,10 +71,10 @@ IsAlone t slot o = (row : Row) → o ≡ Some row → IsTrue (is_open row.state)
 pub at_slot : (old new : TicketTable) (slot : ℕ) (o : Option Row) → PutAt old new slot o → row_of new slot ≡ o
 at_slot old new slot o p = p slot ∙ ap (λ b. cond b o (row_of old slot)) (eq-eqb slot slot refl)
 
-elsewhere : (old new : TicketTable) (slot : ℕ) (o : Option Row) → PutAt old new slot o → (q : ℕ) → eqb q slot ≡ false → row_of new q ≡ row_of old q
+pub elsewhere : (old new : TicketTable) (slot : ℕ) (o : Option Row) → PutAt old new slot o → (q : ℕ) → eqb q slot ≡ false → row_of new q ≡ row_of old q
 elsewhere old new slot o p q e = p q ∙ ap (λ b. cond b o (row_of old q)) e
 
-open_elsewhere : (old new : TicketTable) (slot : ℕ) (o : Option Row) → PutAt old new slot o → (id : Id) (q : ℕ) → eqb q slot ≡ false → HasOpen new id q → HasOpen old id q
+pub open_elsewhere : (old new : TicketTable) (slot : ℕ) (o : Option Row) → PutAt old new slot o → (id : Id) (q : ℕ) → eqb q slot ≡ false → HasOpen new id q → HasOpen old id q
 open_elsewhere old new slot o p id q e h = record {
   row = h.row;
   there = sym (elsewhere old new slot o p q e) ∙ h.there;

@@ -1,5 +1,5 @@
 -- What is so of all tickets at any time.
-use Rattle.std.specs.Prelude.{◌≡◌, ℕ, IsTrue, IsSomeAnd, Some, if◌then◌else◌}
+use Rattle.std.specs.Prelude.{◌≡◌, ◌≢◌, ℕ, IsTrue, IsSomeAnd, Some, if◌then◌else◌}
 use Rattle.flash_names.specs.declared.place.Id.{Id}
 use Rattle.flash_io.specs.declared.job.ReadJob.{ReadJob}
 use Rattle.flash_io.specs.States.{is_open}
@@ -36,6 +36,14 @@ HasNoOpen t id = (slot : ℕ) → HasOpen t id slot → ⊥
 -- every open ticket stays open
 abbrev pub KeepsOpen : TicketTable → TicketTable → Type 0
 KeepsOpen old new = (id : Id) (slot : ℕ) → HasOpen old id slot → HasOpen new id slot
+
+-- no ticket of another id becomes open
+abbrev pub OpensOnly : Id → TicketTable → TicketTable → Type 0
+OpensOnly id old new = (other : Id) (slot : ℕ) → other ≢ id → HasOpen new other slot → HasOpen old other slot
+
+-- every open ticket of another id stays open
+abbrev pub KeepsOthers : Id → TicketTable → TicketTable → Type 0
+KeepsOthers id old new = (other : Id) (slot : ℕ) → other ≢ id → HasOpen old other slot → HasOpen new other slot
 
 -- the ticket in the job's slot is flying, and has the job's id and place
 abbrev pub IsOut : TicketTable → ReadJob → Type 0

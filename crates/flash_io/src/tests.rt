@@ -7,6 +7,8 @@ use std::test::Fail;
 
 const FIRST: Id = Id { pass: 3, seq: 8 };
 
+const SECOND: Id = Id { pass: 3, seq: 9 };
+
 const PLACE: Place = Place {
     label: Label {
         page: 2,
@@ -96,6 +98,36 @@ fn a_page_that_ends(rt: HostRuntime) -> Result<(), Fail> {
     lose_queued(&mut tickets, FIRST);
     assert_eq!(rt; word_of(tickets.collect(ticket)), "ended");
     Ok(())
+}
+
+// The second ticket of the queue is taken by its id, and the first one stays its first.
+#[test]
+fn two_reads(rt: HostRuntime) -> Result<(), Fail> {
+    let key = Key::from_bytes(b"key").ok_or("no key")?;
+    let mut tickets = Tickets::new(rt.alloc());
+    let first = tickets.submit(rt.alloc(), FIRST, &key, PLACE, HEAD, false)?;
+    let Ok(second) = tickets.submit(rt.alloc(), SECOND, &key, PLACE, HEAD, false) else {
+        tickets.forget(first);
+        return Err(Fail::from("no memory"));
+    };
+    assert_eq!(rt; tickets.next(), Some(FIRST));
+    end_read(&mut tickets, SECOND);
+    assert_eq!(rt; tickets.next(), Some(FIRST));
+    end_read(&mut tickets, FIRST);
+    assert_eq!(rt; tickets.next(), None);
+    assert_eq!(rt; word_of(tickets.collect(second)), "fault");
+    assert_eq!(rt; word_of(tickets.collect(first)), "fault");
+    assert!(rt; tickets.is_empty());
+    Ok(())
+}
+
+// Takes the queued ticket of the id, where there is one, and ends its read with a fault.
+fn end_read(tickets: &mut Tickets, id: Id)
+    ensures { KeepsOpen tickets.old tickets.new }
+{
+    if let Some(job) = tickets.fly_of(id, 7) {
+        tickets.finish(job, Closed::Lost(Cause::Fault));
+    }
 }
 
 // Closes the queued ticket of the id, where there is one.

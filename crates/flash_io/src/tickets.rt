@@ -5,7 +5,7 @@ ghost use Rattle.flash_io.specs.States.{is_over};
 ghost use Rattle.flash_io.specs.Row.{first_row};
 ghost use Rattle.flash_io.specs.Slots.{has_spare};
 ghost use Rattle.flash_io.specs.TicketTable.{no_tickets, row_of, next_id, queued_with, asked_row};
-ghost use Rattle.flash_io.specs.Sound.{IsSound, HasOpen, HasNoOpen, KeepsOpen, IsOut};
+ghost use Rattle.flash_io.specs.Sound.{IsSound, HasOpen, HasNoOpen, KeepsOpen, OpensOnly, KeepsOthers, IsOut};
 ghost use Rattle.flash_io.specs.Answers.{answer_of, IsAskedOf, IsCopyOf, IsJob};
 
 use crate::row::TicketRow;
@@ -85,6 +85,7 @@ impl Tickets {
             IfOk result (λ ticket. self.new ≡ after (submits ticket.slot row) self.old) }
         ensures opened { IfOk result (λ ticket. IsOpenTicket self.new ticket) }
         ensures keeps { KeepsOpen self.old self.new }
+        ensures opens { OpensOnly id self.old self.new }
         ensures refused { OnErr result (self.new ≡ self.old) }
     {
         let row = TicketRow::new(alloc, id, key, place, head, recache)?;
@@ -204,6 +205,7 @@ impl Tickets {
         requires { IsOpenTicket self.old ticket }
         ensures told { IsSomeAnd (row_of self.old ticket.slot) (λ row. result ≡ answer_of ticket row.state) }
         ensures after { self.new ≡ after (collects ticket.slot) self.old }
+        ensures others { KeepsOthers ticket.id self.old self.new }
     {
         slots::collect(&mut self.rows, ticket)
     }
@@ -212,6 +214,7 @@ impl Tickets {
     pub fn forget(&mut self, ticket: Ticket)
         requires { IsOpenTicket self.old ticket }
         ensures after { self.new ≡ after (forgets ticket.slot) self.old }
+        ensures others { KeepsOthers ticket.id self.old self.new }
         ensures out { (job : ReadJob) → IsOut self.old job → IsOut self.new job }
     {
         let Ticket { slot, id: _ } = ticket;

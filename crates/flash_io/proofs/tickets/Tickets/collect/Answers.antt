@@ -1,8 +1,10 @@
 use Rattle.std.proofs.Common.{◌≡◌, ap, ◌∙◌, refl}
-use Rattle.flash_io.specs.TicketTable.{TicketTable, table_of}
+use Rattle.flash_io.specs.Slots.{is_over_row}
+use Rattle.flash_io.specs.TicketTable.{TicketTable, table_of, row_of}
 use Rattle.flash_io.specs.Answers.{answer_of}
 use Rattle.flash_io.specs.Calls.{after, collects}
 use Rattle.flash_io.proofs.TableLemmas.{Goes, goes-collect, to_view, open_there}
+use Rattle.flash_io.proofs.OthersLemmas.{others-collects}
 use Rattle.flash_io.proofs.tickets.Tickets.collect.Goals as goal
 
 pub collect-requires : goal.collect-requires
@@ -21,3 +23,6 @@ returns-clause-told c = to_view c.self.inside.rows c.self.inside.queue.items c.a
 
 pub returns-clause-after : goal.returns-clause-after
 returns-clause-after c = (taken c).is ∙ ap (λ (t : TicketTable). after (collects c.args.ticket.slot) t) c.self.view_is
+
+pub returns-clause-others : goal.returns-clause-others
+returns-clause-others c = others-collects c.args.ticket.id c.args.ticket.slot c.args.self.now _ (is_over_row (row_of c.args.self.now c.args.ticket.slot)) (returns-clause-after c) c.requires

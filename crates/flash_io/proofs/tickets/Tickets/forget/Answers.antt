@@ -4,6 +4,7 @@ use Rattle.flash_io.specs.TicketTable.{TicketTable, table_of}
 use Rattle.flash_io.specs.Calls.{after, forgets}
 use Rattle.flash_io.proofs.TableLemmas.{Goes, goes-forgets, left-forgotten, open_there}
 use Rattle.flash_io.proofs.OpenLemmas.{out-forgets}
+use Rattle.flash_io.proofs.OthersLemmas.{others-forgets}
 use Rattle.flash_io.proofs.tickets.Tickets.forget.Goals as goal
 
 pub index-row-requires : goal.index-row-requires
@@ -24,3 +25,6 @@ returns-clause-after c = (gone c).is ∙ ap (λ (t : TicketTable). after (forget
 
 pub returns-clause-out : goal.returns-clause-out
 returns-clause-out c = out-forgets c.args.ticket.slot c.args.self.now _ (returns-clause-after c) (subst IsSome (sym c.requires.there) refl)
+
+pub returns-clause-others : goal.returns-clause-others
+returns-clause-others c = others-forgets c.args.ticket.id c.args.ticket.slot c.args.self.now _ (returns-clause-after c) c.requires

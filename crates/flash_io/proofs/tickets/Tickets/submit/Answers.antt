@@ -6,6 +6,7 @@ use Rattle.flash_io.specs.Calls.{after, submits}
 use Rattle.flash_io.specs.Sound.{HasNoOpen}
 use Rattle.flash_io.proofs.TableLemmas.{Goes, row_of-view, goes-submit}
 use Rattle.flash_io.proofs.OpenLemmas.{open-submits, keeps-submits}
+use Rattle.flash_io.proofs.OthersLemmas.{opens-submits}
 use Rattle.flash_io.proofs.tickets.Tickets.submit.Goals as goal
 
 submitted : (c : goal.After-push_back_reserved) → Goes (after (submits c.add-slot.result (first_row c.args.id c.args.key.now c.args.place c.args.head c.args.recache)) (table_of c.self.inside.rows c.self.inside.queue.items)) (table_of c.add-slot.new.rows c.push_back_reserved.new.self.items)
@@ -33,3 +34,6 @@ returns-clause-opened c = open-submits c.add-slot.result (first_row c.args.id c.
 
 pub returns-clause-keeps : goal.returns-clause-keeps
 returns-clause-keeps c = keeps-submits c.add-slot.result (first_row c.args.id c.args.key.now c.args.place c.args.head c.args.recache) c.args.self.now _ (returns-clause-after c) (returns-clause-free c)
+
+pub returns-clause-opens : goal.returns-clause-opens
+returns-clause-opens c = opens-submits c.add-slot.result (first_row c.args.id c.args.key.now c.args.place c.args.head c.args.recache) c.args.self.now _ (returns-clause-after c)
