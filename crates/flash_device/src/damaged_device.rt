@@ -1,5 +1,6 @@
-ghost use Rattle.std.specs.Prelude.{◌≡◌, ◌≤◌, length, None, Some, IsSomeAnd, OnOk, OnErr, IsTrue, is_err};
+ghost use Rattle.std.specs.Prelude.{◌≡◌, ◌/◌, ◌≤◌, length, take, None, Some, Ok, Err, IsSomeAnd, OnOk, OnErr, IsTrue, is_err, if◌then◌else◌};
 ghost use Rattle.flash_names.specs.Faults.{Counts, Rose};
+ghost use Rattle.flash_names.specs.FaultPlan.{fails_next, after_call};
 ghost use Rattle.flash_device.specs.Calls.{Called, is_fault, calls_told};
 ghost use Rattle.flash_device.specs.Damage.{flipped, damaged};
 ghost use Rattle.flash_device.specs.Memory.{blank};
@@ -52,7 +53,10 @@ impl Device for DamagedDevice {
         ensures kept { (plan_of self.old).faults ≤ (plan_of self.new).faults }
         ensures cause { IsTrue (is_fault result) → Rose (plan_of self.old).faults (plan_of self.new).faults }
 
-        // Where there is memory its pages are zeros then, and the damage is where it was.
+        // It is a fault exactly in a call of its plan. Otherwise the pages are zeros, unless memory ran out, and the
+        // damage is where it was.
+        ensures planned { is_fault result ≡ fails_next (plan_of self.old) }
+        ensures plan { plan_of self.new ≡ after_call (plan_of self.old) }
         ensures blank { OnOk result (memory_of self.new ≡ blank (shape_with pages page_size)) }
         ensures damage { damage_of self.new ≡ damage_of self.old }
     {
@@ -64,6 +68,10 @@ impl Device for DamagedDevice {
         ensures prepared { (memory_of self.new).shape ≡ (memory_of self.old).shape }
         ensures called { Called (is_err result) (calls_told (plan_of self.old)) (calls_told (plan_of self.new)) }
         ensures counts { Counts (plan_of self.old).faults (plan_of self.new).faults result }
+
+        // It fails exactly in the calls of its plan.
+        ensures exact { result ≡ (if fails_next (plan_of self.old) then Err (record {}) else Ok tt) }
+        ensures plan { plan_of self.new ≡ after_call (plan_of self.old) }
 
         // It gives what the memory has, but for the damaged byte, and changes neither.
         ensures damaged { OnOk result (into.new
@@ -85,7 +93,13 @@ impl Device for DamagedDevice {
         ensures called { Called (is_err result) (calls_told (plan_of self.old)) (calls_told (plan_of self.new)) }
         ensures counts { Counts (plan_of self.old).faults (plan_of self.new).faults result }
 
-        // The bytes are in the memory, and the damage is where it was.
+        // It fails exactly in the calls of its plan.
+        ensures exact { result ≡ (if fails_next (plan_of self.old) then Err (record {}) else Ok tt) }
+        ensures plan { plan_of self.new ≡ after_call (plan_of self.old) }
+
+        // The bytes are in the memory, or the first half of them after a fault, and the damage is where it was.
+        ensures half { OnErr result ((memory_of self.new).pages
+            ≡ pages_with page offset (take (length bytes.now / 2) bytes.now) (memory_of self.old).pages) }
         ensures held { OnOk result ((memory_of self.new).pages
             ≡ pages_with page offset bytes.now (memory_of self.old).pages) }
         ensures spoiled { OnErr result

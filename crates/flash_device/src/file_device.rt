@@ -1,6 +1,7 @@
 ghost use Rattle.flash_device.specs.Pages.{shape_with};
-ghost use Rattle.std.specs.Prelude.{◌≡◌, ◌+◌, ◌*◌, ◌≤◌, None, Some, IfOk, length};
-ghost use Rattle.flash_names.specs.Faults.{next_count};
+ghost use Rattle.std.specs.Prelude.{◌≡◌, ◌+◌, ◌*◌, ◌≤◌, None, Some, IfOk, OnOk, OnErr, IsTrue, is_err, length};
+ghost use Rattle.flash_names.specs.Faults.{Rose, next_count};
+ghost use Rattle.flash_device.specs.Calls.{is_fault};
 
 use crate::{Device, DeviceFault, PrepareError, Shape};
 use std::fs::{OpenFile, OpenOptions};
@@ -89,7 +90,15 @@ impl<F: FileExt + OpenFile> Device for FileDevice<F> {
 
     ghost faults = { λ d. faults_of d };
 
-    fn prepare(&mut self, pages: u32, page_size: u32) -> Result<(), PrepareError> {
+    fn prepare(&mut self, pages: u32, page_size: u32) -> Result<(), PrepareError>
+        ensures ready { OnOk result (shape_of self.new ≡ Some (shape_with pages page_size)) }
+        ensures refused { OnErr result (shape_of self.new ≡ shape_of self.old) }
+        ensures kept { faults_of self.old ≤ faults_of self.new }
+        ensures cause { IsTrue (is_fault result) → Rose (faults_of self.old) (faults_of self.new) }
+
+        // It takes no memory: every error is a fault.
+        ensures memory { is_fault result ≡ is_err result }
+    {
         let bytes = u64::from(pages) * u64::from(page_size);
         match self.file.set_len(bytes) {
             Ok(()) => {
