@@ -9,6 +9,7 @@ use Rattle.flash_entry.specs.declared.entry.Entry.{Entry}
 use Rattle.flash_entry.specs.declared.entry.Entry.TheVariants as entries
 use Rattle.flash_machine.specs.Cache.{Cache}
 use Rattle.flash_machine.specs.Steps.{clock_next}
+use Rattle.flash_machine.proofs.Meeting.{clock_meets}
 use Rattle.flash_core.specs.declared.item.Item.{Item}
 use Rattle.flash_core.specs.Items.{cache_of_items}
 use Rattle.flash_core.specs.Store.{Desk, Call}
@@ -18,7 +19,7 @@ use Rattle.flash_core.proofs.Told.{Goes, told_goes_on}
 
 -- a reading above the moment goes on
 rise_goes : (g : Geometry) (h : List Entry) (c : Cache) (moment : ℕ) → c.now < moment → moment ≤ 2 ^ 62 → Goes g h c (entries.Clock moment ∷ []) (clock_next c moment)
-rise_goes g h c moment above within = record { legal = (record { above = above; within = within }, tt); makes = refl }
+rise_goes g h c moment above within = record { legal = (clock_meets g h c moment above within, tt); makes = refl }
 
 above_by : (now moment : ℕ) → nat_lt now moment ≡ true → now < moment
 above_by now moment is = grind (arith, nat_tests)

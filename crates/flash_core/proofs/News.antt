@@ -3,7 +3,7 @@ use Rattle.std.proofs.Common.{List, [], ◌∷◌, ◌++◌}
 use Rattle.std.specs.List.{AllByRecursion}
 use Rattle.flash_names.specs.declared.place.Id.{Id}
 use Rattle.flash_entry.specs.declared.entry.Entry.{Entry}
-use Rattle.flash_machine.specs.Legal.{IsNew, IsEarlier, step_id}
+use Rattle.flash_machine.specs.NewSteps.{IsNew, IsEarlier, step_id}
 
 -- what is true of each element of two lists is true of each after one another
 pub all_behind : {A : Type 0} (P : A → Type 0) (xs ys : List A) → AllByRecursion P xs → AllByRecursion P ys → AllByRecursion P (xs ++ ys)

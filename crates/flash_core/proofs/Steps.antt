@@ -4,14 +4,18 @@ use Rattle.flash_names.specs.declared.place.Id.{Id}
 use Rattle.flash_names.specs.declared.geometry.Geometry.{Geometry}
 use Rattle.flash_entry.specs.declared.ask.Put.{Put}
 use Rattle.flash_entry.specs.declared.ask.Look.{Look}
+use Rattle.flash_entry.specs.declared.entry.Done.TheVariants as deeds
 use Rattle.flash_entry.specs.declared.entry.Entry.{Entry}
+use Rattle.flash_entry.specs.declared.entry.Entry.TheVariants as entries
 use Rattle.flash_machine.specs.Item.{Item}
 use Rattle.flash_machine.specs.Cache.{Cache}
 use Rattle.flash_machine.specs.Storing.{store_step}
 use Rattle.flash_machine.specs.Looking.{residence_of, look_next}
 use Rattle.flash_machine.specs.Steps.{next}
-use Rattle.flash_machine.specs.Legal.{Meets, LegalFrom, IsNew}
+use Rattle.flash_machine.specs.Legal.{Meets, LegalFrom}
+use Rattle.flash_machine.specs.NewSteps.{IsNew}
 use Rattle.flash_machine.proofs.Runs.{LegalFrom-append, cache_from-append}
+use Rattle.flash_machine.proofs.Meeting.{store_meets, look_meets}
 use Rattle.flash_core.specs.Store.{Desk}
 use Rattle.flash_core.specs.Calls.{sweep, store_call, look_call}
 use Rattle.flash_core.proofs.Told.{Goes}
@@ -30,8 +34,9 @@ store_goes g h c desk id put here new =
     let s = sweep c desk put.key in
     let sweep_step = sweeps g h c desk put.key here in
     let live = sweep_step.live (h ++ s.entries) in
+    let answers = λ (i : Option Item). Meets g (h ++ s.entries) s.cache (entries.Did id (deeds.Store put (store_step g s.cache put i).0)) in
     goes_behind g h c s.cache _ s.entries _ sweep_step.goes
-    (sweep_step.new id new, ap (λ (i : Option Item). (store_step g s.cache put i).0) (sym live))
+    (subst answers live (store_meets g (h ++ s.entries) s.cache id put (sweep_step.new id new)))
     (ap (λ (i : Option Item). (store_step g s.cache put i).1) live)
 
 -- a lookup
@@ -40,6 +45,7 @@ look_goes g h c desk id key look here new =
     let s = sweep c desk key in
     let sweep_step = sweeps g h c desk key here in
     let live = sweep_step.live (h ++ s.entries) in
+    let finds = λ (i : Option Item). Meets g (h ++ s.entries) s.cache (entries.Looked id key look (residence_of i)) in
     goes_behind g h c s.cache _ s.entries _ sweep_step.goes
-    (sweep_step.new id new, ap residence_of (sym live))
+    (subst finds live (look_meets g (h ++ s.entries) s.cache id key look (sweep_step.new id new)))
     (ap (look_next s.cache key look) live)

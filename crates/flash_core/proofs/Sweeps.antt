@@ -10,7 +10,8 @@ use Rattle.flash_entry.specs.declared.entry.Entry.TheVariants as entries
 use Rattle.flash_machine.specs.Item.{Item}
 use Rattle.flash_machine.specs.Cache.{Cache}
 use Rattle.flash_machine.specs.Live.{is_expired_item, is_live, label_has_ended, passing_item, live_item}
-use Rattle.flash_machine.specs.Legal.{IsNew}
+use Rattle.flash_machine.specs.NewSteps.{IsNew}
+use Rattle.flash_machine.proofs.Meeting.{dead_meets}
 use Rattle.flash_core.specs.Store.{Desk, Call}
 use Rattle.flash_core.specs.Calls.{is_expired_at, sweep_step, sweep}
 pub use Rattle.flash_core.specs.Laws.{IsHere}
@@ -26,7 +27,7 @@ module _ (c : Cache) (desk : Desk) (key : List ℕ) where
   goes_by : (g : Geometry) (h : List Entry) (found : Option Item) (dead : Bool) → finite.get c.items key ≡ found → is_expired_at c found ≡ dead → Goes g h c (sweep_step c desk key dead).entries (sweep_step c desk key dead).cache
   goes_by g h found false here is = record { legal = tt; makes = refl }
   goes_by g h None true here is = absurd (cc is)
-  goes_by g h (Some item) true here is = record { legal = ((item, here, is), tt); makes = refl }
+  goes_by g h (Some item) true here is = record { legal = (dead_meets g h c key item here is, tt); makes = refl }
 
   live_step : (j : List Entry) (item : Item) (dead : Bool) (label : _) → is_expired_item c item ≡ dead → dead ≡ false → item.label ≡ label → label ≡ None → passing_item (is_live j c) (Some item) ≡ Some item
   live_step j item dead label is alive at none =

@@ -1,5 +1,5 @@
 -- What a store keeps, whatever is done with it.
-use Rattle.std.specs.Prelude.{◌≡◌, ℕ, ◌^◌, ◌≤◌, List, Option}
+use Rattle.std.specs.Prelude.{◌≡◌, ℕ, ◌≤◌, List, Option}
 use Rattle.std.specs.Option.{ForSome}
 use Rattle.flash_names.specs.declared.place.Id.{Id}
 use Rattle.flash_names.specs.declared.geometry.Geometry.{Geometry}
@@ -7,7 +7,8 @@ use Rattle.flash_names.specs.Geometry.{Passes}
 use Rattle.flash_entry.specs.declared.entry.Entry.{Entry}
 use Rattle.flash_machine.specs.Cache.{Cache}
 use Rattle.flash_machine.specs.Steps.{cache_of}
-use Rattle.flash_machine.specs.Legal.{Legal, IsNew}
+use Rattle.flash_machine.specs.Legal.{Legal}
+use Rattle.flash_machine.specs.NewSteps.{IsNew}
 use Rattle.flash_core.specs.declared.item.Item.{Item}
 use Rattle.flash_core.specs.Items.{HaveOwnKeys, HaveOwnNumbers, AreKept, cache_of_items}
 use Rattle.flash_machine.specs.Moments.{last_moment}

@@ -1,30 +1,42 @@
 -- What a step keeps of the moment and of the CAS numbers.
-use Rattle.std.proofs.Common.{◌≡◌, ℕ, ◌+◌, ◌<◌, ◌≤◌, Bool, true, false, List, [], ◌∷◌, ◌++◌, Option, None, Some, cond, refl, sym, ◌∙◌, ap, subst, arith}
+use Rattle.std.proofs.Common.{◌≡◌, ℕ, ℤ, ◌+◌, ◌<◌, ◌≤◌, Bool, true, false, List, [], ◌∷◌, ◌++◌, Option, None, Some, cond, refl, sym, ◌∙◌, ap, subst, arith}
+use Rattle.std.specs.Prelude.{nat_le}
 use Rattle.std.specs.Ordering.{nat_cmp, eq_by_cmp}
 use Rattle.std.specs.Cmp.Lexicographic.{slice_cmp, nat_list_cmp_total}
 use Rattle.std.specs.FinMap as map
 use Rattle.std.proofs.lemmas.Bool.{cond_both}
 use Rattle.std.proofs.lemmas.Slice.Eq.{bytes_eq-Decides}
 use Rattle.std.proofs.lemmas.Map.Text.{is_eq-slice_cmp}
+use Rattle.flash_names.specs.declared.place.Label.{Label}
 use Rattle.flash_names.specs.declared.geometry.Geometry.{Geometry}
 use Rattle.flash_entry.specs.declared.ask.Mode.{Mode}
 use Rattle.flash_entry.specs.declared.ask.Mode.TheVariants.{Append, Prepend}
 use Rattle.flash_entry.specs.declared.ask.Put.{Put}
 use Rattle.flash_entry.specs.declared.ask.Look.{Look}
+use Rattle.flash_entry.specs.declared.ask.Arith.{Arith}
+use Rattle.flash_entry.specs.declared.ask.Create.{Create}
 use Rattle.flash_entry.specs.declared.answer.Stored.{Stored}
+use Rattle.flash_entry.specs.declared.answer.Gone.{Gone}
+use Rattle.flash_entry.specs.declared.answer.Summed.{Summed}
+use Rattle.flash_entry.specs.declared.answer.Sum.{Sum}
+use Rattle.flash_entry.specs.declared.answer.Sum.TheVariants as sums
 use Rattle.flash_entry.specs.declared.entry.Done.{Done}
 use Rattle.flash_entry.specs.declared.entry.Done.TheVariants as deeds
 use Rattle.flash_entry.specs.declared.entry.Entry.{Entry}
 use Rattle.flash_entry.specs.declared.entry.Entry.TheVariants as entries
-use Rattle.flash_machine.specs.Moments.{is_reached}
+use Rattle.flash_machine.specs.Moments.{is_reached, deadline}
 use Rattle.flash_machine.specs.Item.{Item}
 use Rattle.flash_machine.specs.Cache.{Items, Cache, first_cache}
 use Rattle.flash_machine.specs.Live.{is_live, passing_item, live_item}
-use Rattle.flash_machine.specs.Storing.{stored_item, store_outcome, refusal}
+use Rattle.flash_machine.specs.Storing.{last_number, stored_item, with_stored, store_outcome, refusal}
 use Rattle.flash_machine.specs.Looking.{fetched_item, look_next}
-use Rattle.flash_machine.specs.Steps.{clock_next, done_next, next, cache_from, cache_of}
+use Rattle.flash_machine.specs.Deleting.{compare_fails, without_item, delete_step}
+use Rattle.flash_machine.specs.Summing.{number_in, changed_number, number_item, changed_item, number_stored, sum_created, sum_changed, sum_step}
+use Rattle.flash_machine.specs.Touching.{touch_step, flushed, flush_at}
+use Rattle.flash_machine.specs.Steps.{clock_next, done_next, labelled, next, cache_from, cache_of}
 use Rattle.flash_machine.specs.Legal.{Meets, LegalFrom}
 use Rattle.flash_machine.specs.Rising.{AreNumbered, AreApart}
+use Rattle.flash_machine.proofs.Meeting.{clock_above}
 
 -- an item that passes a test is the one that was there
 passed_step : (b : Bool) (old item : Item) → cond b (Some old) None ≡ Some item → Some old ≡ Some item
@@ -49,25 +61,65 @@ stored_moment : (r : Option Stored) (c : Cache) (key : List ℕ) (item : Item) �
 stored_moment None c key item = omega arith
 stored_moment (Some refusal) c key item = omega arith
 
+number_moment : (answer : Summed → Sum) (c : Cache) (key : List ℕ) (item : Item) (number : ℕ) → c.now ≤ (number_stored answer c key item number).1.now
+number_moment answer c key item number =
+    cond_both (nat_le last_number c.last_cas) _ _ (λ (step : Sum × Cache). c.now ≤ step.1.now) (λ _. omega arith) (λ _. omega arith)
+
+sum_moment : (c : Cache) (ask : Arith) (live : Option Item) → c.now ≤ (sum_step c ask live).1.now
+sum_moment c ask None = created ask.create
+  where
+    created : (create : Option Create) → c.now ≤ (sum_created c ask.key create).1.now
+    created None = omega arith
+    created (Some create) = number_moment sums.Created c ask.key (number_item c 0 (deadline create.exptime c.now) create.start) create.start
+sum_moment c ask (Some item) =
+    cond_both (compare_fails ask.compare item.cas) _ _ (λ (step : Sum × Cache). c.now ≤ step.1.now) (λ _. omega arith) (λ _. changed (number_in item))
+  where
+    changed : (number : Option ℕ) → c.now ≤ (sum_changed c ask item number).1.now
+    changed None = omega arith
+    changed (Some number) =
+        let after = changed_number ask.down ask.delta number in number_moment sums.Now c ask.key (changed_item c ask item after) after
+
+delete_moment : (c : Cache) (key : List ℕ) (compare : Option ℕ) (live : Option Item) → c.now ≤ (delete_step c key compare live).1.now
+delete_moment c key compare None = omega arith
+delete_moment c key compare (Some item) =
+    cond_both (compare_fails compare item.cas) _ _ (λ (step : Gone × Cache). c.now ≤ step.1.now) (λ _. omega arith) (λ _. omega arith)
+
+touch_moment : (c : Cache) (key : List ℕ) (exptime : ℤ) (live : Option Item) → c.now ≤ (touch_step c key exptime live).1.now
+touch_moment c key exptime None = omega arith
+touch_moment c key exptime (Some item) = omega arith
+
+flush_moment : (c : Cache) (moment : Option ℕ) → c.now ≤ (flush_at c moment).now
+flush_moment c None = omega arith
+flush_moment c (Some moment) = cond_both (nat_le moment c.now) _ _ (λ (d : Cache). c.now ≤ d.now) (λ _. omega arith) (λ _. omega arith)
+
 done_moment : (g : Geometry) (h : List Entry) (c : Cache) (done : Done) → c.now ≤ (done_next g h c done).now
 done_moment g h c (deeds.Store put answer) = stored_moment (refusal g c put (live_item h c put.key)) c put.key (stored_item c put put.mode (live_item h c put.key))
-done_moment g h c _ = omega arith
+done_moment g h c (deeds.Delete key compare answer) = delete_moment c key compare (live_item h c key)
+done_moment g h c (deeds.Sum ask answer) = sum_moment c ask (live_item h c ask.key)
+done_moment g h c (deeds.Touch key exptime answer) = touch_moment c key exptime (live_item h c key)
+done_moment g h c (deeds.Flush delay) = flush_moment c (deadline delay c.now)
+done_moment g h c (deeds.Stats tally) = omega arith
 
 looked_moment : (c : Cache) (key : List ℕ) (look : Look) (live : Option Item) → c.now ≤ (look_next c key look live).now
 looked_moment c key look None = omega arith
 looked_moment c key look (Some item) = omega arith
 
-moment_rises : (g : Geometry) (h : List Entry) (c : Cache) (e : Entry) → Meets g h c e → c.now ≤ (next g h c e).now
-moment_rises g h c (entries.Clock moment) meets = rises_to c moment (omega (arith, meets.above))
-moment_rises g h c (entries.Did id done) meets = done_moment g h c done
-moment_rises g h c (entries.Looked id key look residence) meets = looked_moment c key look (live_item h c key)
-moment_rises g h c (entries.Dropped key cause) meets = omega arith
-moment_rises g h c _ meets = absurd meets
+labelled_moment : (c : Cache) (key : List ℕ) (label : Option Label) (found : Option Item) → c.now ≤ (labelled c key label found).now
+labelled_moment c key label None = omega arith
+labelled_moment c key label (Some item) = omega arith
+
+next_moment : (g : Geometry) (h : List Entry) (c : Cache) (e : Entry) → Meets g h c e → c.now ≤ (next g h c e).now
+next_moment g h c (entries.Clock moment) meets = rises_to c moment (omega (arith, clock_above c moment meets.0))
+next_moment g h c (entries.Did id done) meets = done_moment g h c done
+next_moment g h c (entries.Looked id key look residence) meets = looked_moment c key look (live_item h c key)
+next_moment g h c (entries.Moved key cas label) meets = labelled_moment c key (Some label) (map.get c.items key)
+next_moment g h c (entries.Recached key cas) meets = labelled_moment c key None (map.get c.items key)
+next_moment g h c _ meets = omega arith
 
 pub moment_from : (g : Geometry) (h : List Entry) (c : Cache) (es : List Entry) → LegalFrom g h c es → c.now ≤ (cache_from g h c es).now
 moment_from g h c [] legal = omega arith
 moment_from g h c (e ∷ es) legal =
-    omega (arith, moment_rises g h c e legal.0, moment_from g (h ++ e ∷ []) (next g h c e) es legal.1)
+    omega (arith, next_moment g h c e legal.0, moment_from g (h ++ e ∷ []) (next g h c e) es legal.1)
 
 -- each item and the flush mark have numbers up to the last one, and no two items have one
 pub record HasNumbers (c : Cache) : Type 0 where
@@ -141,14 +193,21 @@ own_remove items key was q r item another is other same =
 new_own : (last : ℕ) (items : Items) (key : List ℕ) (new : Item) → last < new.cas → AreNumbered last items → IsOwn items key new
 new_own last items key new above was other another is same = absurd (omega (arith, above, (was other another is).1, same))
 
+-- a flush at this moment, and one that waits
+flushed_up : (c : Cache) → GoesUp c (flushed c)
+flushed_up c = record { rises = omega arith; numbers = λ was. record { mark = omega arith; items = was.items; own = was.own } }
+
+pending_up : (c : Cache) (moment : ℕ) → GoesUp c (record c { pending_flush = Some moment })
+pending_up c moment = record { rises = omega arith; numbers = λ was. record { mark = was.mark; items = was.items; own = was.own } }
+
 clock_up : (c : Cache) (moment : ℕ) → GoesUp c (clock_next c moment)
 clock_up c moment =
     cond_both (is_reached c.pending_flush moment) _ _ (GoesUp c) (λ _. record { rises = omega arith; numbers = λ was. record { mark = omega arith; items = was.items; own = was.own } })
     (λ _. record { rises = omega arith; numbers = λ was. record { mark = was.mark; items = was.items; own = was.own } })
 
-stored_up : (r : Option Stored) (c : Cache) (key : List ℕ) (item : Item) → item.cas ≡ c.last_cas + 1 → GoesUp c (store_outcome r c key item).1
-stored_up (Some refusal) c key item number = stays c
-stored_up None c key item number = record {
+-- a new item under the next number
+new_up : (c : Cache) (key : List ℕ) (item : Item) → item.cas ≡ c.last_cas + 1 → GoesUp c (with_stored c key item)
+new_up c key item number = record {
   rises = omega arith;
   numbers = λ was. record {
     mark = omega (arith, was.mark);
@@ -157,27 +216,87 @@ stored_up None c key item number = record {
   };
 }
 
-done_up : (g : Geometry) (h : List Entry) (c : Cache) (done : Done) → GoesUp c (done_next g h c done)
-done_up g h c (deeds.Store put answer) =
-    let live = live_item h c put.key in stored_up (refusal g c put live) c put.key (stored_item c put put.mode live) (stored_cas c put put.mode live)
-done_up g h c _ = stays c
-
-looked_up : (c : Cache) (key : List ℕ) (look : Look) (live : Option Item) → ((item : Item) → live ≡ Some item → map.get c.items key ≡ Some item) → GoesUp c (look_next c key look live)
-looked_up c key look None there = stays c
-looked_up c key look (Some item) there = record {
+-- another item of the same number in the place of the one under the key
+changed_up : (c : Cache) (key : List ℕ) (item changed : Item) → map.get c.items key ≡ Some item → changed.cas ≡ item.cas → GoesUp c (record c { items = map.insert c.items key changed })
+changed_up c key item changed there same = record {
   rises = omega arith;
   numbers = λ was. record {
     mark = was.mark;
-    items = numbered_insert c.last_cas c.items key (fetched_item c look item) (was.items key item (there item refl)) was.items;
-    own = own_insert c.items key (fetched_item c look item) (λ other another is same. was.own key other item another (there item refl) is (sym same)) was.own;
+    items = numbered_insert c.last_cas c.items key changed (subst (λ (n : ℕ). (1 ≤ n) × (n ≤ c.last_cas)) (sym same) (was.items key item there)) was.items;
+    own = own_insert c.items key changed (λ other another is equal. was.own key other item another there is (sym (equal ∙ same))) was.own;
   };
 }
+
+without_up : (c : Cache) (key : List ℕ) → GoesUp c (without_item c key)
+without_up c key = record {
+  rises = omega arith;
+  numbers = λ was. record { mark = was.mark; items = numbered_remove c.last_cas c.items key was.items; own = own_remove c.items key was.own };
+}
+
+stored_up : (r : Option Stored) (c : Cache) (key : List ℕ) (item : Item) → item.cas ≡ c.last_cas + 1 → GoesUp c (store_outcome r c key item).1
+stored_up (Some refusal) c key item number = stays c
+stored_up None c key item number = new_up c key item number
+
+number_up : (answer : Summed → Sum) (c : Cache) (key : List ℕ) (item : Item) (number : ℕ) → item.cas ≡ c.last_cas + 1 → GoesUp c (number_stored answer c key item number).1
+number_up answer c key item number next =
+    cond_both (nat_le last_number c.last_cas) _ _ (λ (step : Sum × Cache). GoesUp c step.1) (λ _. stays c) (λ _. new_up c key item next)
+
+sum_up : (c : Cache) (ask : Arith) (live : Option Item) → GoesUp c (sum_step c ask live).1
+sum_up c ask None = created ask.create
+  where
+    created : (create : Option Create) → GoesUp c (sum_created c ask.key create).1
+    created None = stays c
+    created (Some create) = number_up sums.Created c ask.key (number_item c 0 (deadline create.exptime c.now) create.start) create.start refl
+sum_up c ask (Some item) =
+    cond_both (compare_fails ask.compare item.cas) _ _ (λ (step : Sum × Cache). GoesUp c step.1) (λ _. stays c) (λ _. changed (number_in item))
+  where
+    changed : (number : Option ℕ) → GoesUp c (sum_changed c ask item number).1
+    changed None = stays c
+    changed (Some number) =
+        let after = changed_number ask.down ask.delta number in number_up sums.Now c ask.key (changed_item c ask item after) after refl
+
+delete_up : (c : Cache) (key : List ℕ) (compare : Option ℕ) (live : Option Item) → GoesUp c (delete_step c key compare live).1
+delete_up c key compare None = stays c
+delete_up c key compare (Some item) =
+    cond_both (compare_fails compare item.cas) _ _ (λ (step : Gone × Cache). GoesUp c step.1) (λ _. stays c) (λ _. without_up c key)
+
+flush_up : (c : Cache) (moment : Option ℕ) → GoesUp c (flush_at c moment)
+flush_up c None = flushed_up c
+flush_up c (Some moment) = cond_both (nat_le moment c.now) _ _ (GoesUp c) (λ _. flushed_up c) (λ _. pending_up c moment)
+
+module _ (c : Cache) (key : List ℕ) where
+  -- the live item is the one under the key
+  abbrev IsUnder : Option Item → Type 0
+  IsUnder live = (item : Item) → live ≡ Some item → map.get c.items key ≡ Some item
+
+  touch_up : (exptime : ℤ) (live : Option Item) → IsUnder live → GoesUp c (touch_step c key exptime live).1
+  touch_up exptime None there = stays c
+  touch_up exptime (Some item) there = changed_up c key item _ (there item refl) refl
+
+  looked_up : (look : Look) (live : Option Item) → IsUnder live → GoesUp c (look_next c key look live)
+  looked_up look None there = stays c
+  looked_up look (Some item) there = changed_up c key item (fetched_item c look item) (there item refl) refl
+
+  labelled_up : (label : Option Label) (found : Option Item) → map.get c.items key ≡ found → GoesUp c (labelled c key label found)
+  labelled_up label None there = stays c
+  labelled_up label (Some item) there = changed_up c key item _ there refl
+
+done_up : (g : Geometry) (h : List Entry) (c : Cache) (done : Done) → GoesUp c (done_next g h c done)
+done_up g h c (deeds.Store put answer) =
+    let live = live_item h c put.key in stored_up (refusal g c put live) c put.key (stored_item c put put.mode live) (stored_cas c put put.mode live)
+done_up g h c (deeds.Delete key compare answer) = delete_up c key compare (live_item h c key)
+done_up g h c (deeds.Sum ask answer) = sum_up c ask (live_item h c ask.key)
+done_up g h c (deeds.Touch key exptime answer) = touch_up c key exptime (live_item h c key) (passed (is_live h c) (map.get c.items key))
+done_up g h c (deeds.Flush delay) = flush_up c (deadline delay c.now)
+done_up g h c (deeds.Stats tally) = stays c
 
 step_up : (g : Geometry) (h : List Entry) (c : Cache) (e : Entry) → GoesUp c (next g h c e)
 step_up g h c (entries.Clock moment) = clock_up c moment
 step_up g h c (entries.Did id done) = done_up g h c done
 step_up g h c (entries.Looked id key look residence) = looked_up c key look (live_item h c key) (passed (is_live h c) (map.get c.items key))
-step_up g h c (entries.Dropped key cause) = record { rises = omega arith; numbers = λ was. record { mark = was.mark; items = numbered_remove c.last_cas c.items key was.items; own = own_remove c.items key was.own } }
+step_up g h c (entries.Moved key cas label) = labelled_up c key (Some label) (map.get c.items key) refl
+step_up g h c (entries.Recached key cas) = labelled_up c key None (map.get c.items key) refl
+step_up g h c (entries.Dropped key cause) = without_up c key
 step_up g h c _ = stays c
 
 pub last_from : (g : Geometry) (h : List Entry) (c : Cache) (es : List Entry) → c.last_cas ≤ (cache_from g h c es).last_cas

@@ -1,5 +1,5 @@
 -- The replies to a session's commands, read off the journal.
-use Rattle.std.specs.Prelude.{◌≡◌, ℕ, ◌+◌, ◌-◌, ◌^◌, ◌≤◌, max, min, Bool, true, false, ◌&&◌, nat_eq, List, [], ◌∷◌, ◌++◌, length, slice_get, Option, None, Some, IsSome, IsTrue, if◌then◌else◌}
+use Rattle.std.specs.Prelude.{◌≡◌, ℕ, ◌+◌, ◌-◌, ◌≤◌, max, min, Bool, true, false, ◌&&◌, nat_eq, List, [], ◌∷◌, ◌++◌, length, slice_get, Option, None, Some, IsSome, if◌then◌else◌}
 use Rattle.std.specs.List.{concat, filter_map, list_any, AllByRecursion}
 use Rattle.std.specs.Option.{ForSome, option_or}
 use Rattle.flash_names.specs.declared.place.Id.{Id}

@@ -5,7 +5,7 @@ use Rattle.flash_names.specs.Source.{IsAtEnd}
 use Rattle.flash_names.specs.Faults.{Rose}
 use Rattle.flash_names.specs.Told.{with_front, with_more}
 use Rattle.flash_device.specs.declared.shape.Shape.{Shape}
-use Rattle.flash_device.specs.Calls.{Calls, Called}
+use Rattle.flash_device.specs.Calls.{Called}
 use Rattle.flash_trace.specs.declared.fault.ScriptFault.{ScriptFault}
 use Rattle.flash_trace.specs.declared.fault.Status.{Status}
 use Rattle.flash_trace.specs.declared.fault.Status.TheVariants as statuses

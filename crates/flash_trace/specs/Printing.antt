@@ -1,5 +1,5 @@
 -- What the steps of a script print and which sessions they make, read off the script alone.
-use Rattle.std.specs.Prelude.{◌≡◌, ℕ, ◌+◌, ◌-◌, ◌^◌, min, Bool, false, nat_eq, nat_lt, List, [], ◌∷◌, ◌++◌, Option, None, Some, is_some, slice_get, codes, decimal, if◌then◌else◌}
+use Rattle.std.specs.Prelude.{◌≡◌, ℕ, ◌+◌, ◌-◌, min, Bool, false, nat_eq, nat_lt, List, [], ◌∷◌, ◌++◌, is_some, slice_get, codes, decimal, if◌then◌else◌}
 use Rattle.std.specs.List.{list_any}
 use Rattle.std.specs.Option.{option_flatten}
 use Rattle.flash_names.specs.declared.geometry.Geometry.{Geometry}

@@ -1,6 +1,6 @@
 // The commands of a session, done on the store.
 ghost use Rattle.std.specs.Prelude.{◌≡◌, ◌+◌, IfOk, OnOk, IsTrue, is_some};
-ghost use Rattle.flash_machine.specs.Legal.{IsNew};
+ghost use Rattle.flash_machine.specs.NewSteps.{IsNew};
 ghost use Rattle.flash_trace.specs.Playing.{act, act_all};
 ghost use Rattle.flash_trace.specs.Seats.{entries_of, kept_of, seat_of};
 

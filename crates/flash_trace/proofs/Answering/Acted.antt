@@ -5,7 +5,7 @@ use Rattle.std.proofs.lemmas.List.{append-nil}
 use Rattle.flash_names.specs.declared.geometry.Geometry.{Geometry}
 use Rattle.flash_entry.specs.declared.ask.Ask.TheVariants as asks
 use Rattle.flash_entry.specs.declared.found.Told.TheVariants as told
-use Rattle.flash_machine.specs.Legal.{IsNew}
+use Rattle.flash_machine.specs.NewSteps.{IsNew}
 use Rattle.flash_core.specs.Sound.{IsRun}
 use Rattle.flash_core.specs.Store.{Call}
 use Rattle.flash_core.specs.Calls.{store_call, look_call, clock_call}

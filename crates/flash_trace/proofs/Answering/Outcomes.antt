@@ -14,7 +14,7 @@ use Rattle.flash_entry.specs.declared.found.Told.{Told}
 use Rattle.flash_machine.specs.Cache.{Cache, first_cache}
 use Rattle.flash_machine.specs.Live.{live_item}
 use Rattle.flash_machine.specs.Steps.{next, cache_from, cache_of}
-use Rattle.flash_machine.specs.Legal.{IsNew, IsEarlier, step_id}
+use Rattle.flash_machine.specs.NewSteps.{IsNew, IsEarlier, step_id}
 use Rattle.flash_trace.specs.Answers.{same_id, entry_outcome, outcome_from, done_outcome, found_outcome, HasEntry}
 use Rattle.flash_trace.proofs.Lists.{all_map}
 

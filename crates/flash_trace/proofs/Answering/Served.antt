@@ -14,7 +14,7 @@ use Rattle.flash_entry.specs.declared.entry.Entry.{Entry}
 use Rattle.flash_entry.specs.declared.found.Told.{Told}
 use Rattle.flash_machine.specs.Cache.{Cache, first_cache}
 use Rattle.flash_machine.specs.Steps.{cache_of}
-use Rattle.flash_machine.specs.Legal.{IsNew}
+use Rattle.flash_machine.specs.NewSteps.{IsNew}
 use Rattle.flash_trace.specs.declared.command.Command.{Command}
 use Rattle.flash_trace.specs.Answers.{ask_of, asks_of, outcome_from, or_no_memory, outcome, reply_to, answers_from, answers, entry_ask, IsOneOf, Keeps, HasEntry}
 use Rattle.flash_trace.specs.Replies.{step_text, plain_text}

@@ -2,7 +2,7 @@
 use Rattle.std.proofs.Common.{◌≡◌, ℕ, ◌+◌, ◌<◌, suc, List, ◌∷◌, length, get_or, drop, sym, ◌∙◌, ap, subst, arith}
 use Rattle.std.proofs.Math.Seq.{drop-cons}
 use Rattle.flash_names.specs.declared.geometry.Geometry.{Geometry}
-use Rattle.flash_machine.specs.Legal.{IsNew}
+use Rattle.flash_machine.specs.NewSteps.{IsNew}
 use Rattle.flash_trace.specs.declared.command.Command.{Command}
 use Rattle.flash_trace.specs.Playing.{Seat, StoreState, act, act_all}
 use Rattle.flash_trace.proofs.Playing.NewNumbers.{act_new}

@@ -10,7 +10,7 @@ use Rattle.flash_entry.specs.declared.ask.Ask.TheVariants as asks
 use Rattle.flash_entry.specs.declared.ask.Look.{Look}
 use Rattle.flash_entry.specs.declared.entry.Entry.{Entry}
 use Rattle.flash_entry.specs.declared.entry.Entry.TheVariants as entries
-use Rattle.flash_machine.specs.Legal.{IsNew, IsEarlier, step_id}
+use Rattle.flash_machine.specs.NewSteps.{IsNew, IsEarlier, step_id}
 use Rattle.flash_core.specs.Store.{Call}
 use Rattle.flash_core.specs.Calls.{clock_call}
 use Rattle.flash_core.proofs.News.{new_behind}

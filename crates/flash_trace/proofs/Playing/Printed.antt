@@ -1,5 +1,5 @@
 -- What the steps of a script print, and which sessions they make.
-use Rattle.std.proofs.Common.{◌≡◌, ◌≢◌, ℕ, zero, suc, ◌+◌, ◌-◌, ◌^◌, min, max, Bool, true, false, nat_eq, nat_lt, List, [], ◌∷◌, ◌++◌, length, Option, None, Some, refl, sym, ◌∙◌, ap, subst, arith, append_assoc, if◌then◌else◌, is_some}
+use Rattle.std.proofs.Common.{◌≡◌, ℕ, zero, suc, ◌+◌, ◌-◌, ◌^◌, min, Bool, true, false, nat_eq, nat_lt, List, [], ◌∷◌, ◌++◌, length, Option, None, Some, refl, sym, ◌∙◌, ap, arith, append_assoc, if◌then◌else◌, is_some}
 use Rattle.std.specs.Prelude.{slice_get, codes, decimal, replicate, ◌||◌}
 use Rattle.std.specs.List.{list_any}
 use Rattle.std.specs.Option.{option_flatten}
@@ -14,8 +14,8 @@ use Rattle.flash_core.specs.Store.{Desk, Call}
 use Rattle.flash_core.specs.Calls.{clock_call}
 use Rattle.flash_trace.specs.Answers.{bytes_for, bytes_to, bytes_before_last_run, is_run, moment_with, moment_after}
 use Rattle.flash_trace.specs.Commands.{commands_of, is_at_end}
-use Rattle.flash_trace.specs.Playing.{Seat, Play, seat_at, with_seat, with_line, seat_after_input, seat_after_run, act_all, after_call, clock, say, run, play_step, play_from, play_of, first_play}
-use Rattle.flash_trace.specs.Printing.{printed_line, step_prints, steps_print, names, IsPrinted, EveryPlayIsPrinted}
+use Rattle.flash_trace.specs.Playing.{Seat, Play, seat_at, with_seat, with_line, seat_after_input, seat_after_run, act_all, after_call, play_step, play_from, first_play}
+use Rattle.flash_trace.specs.Printing.{printed_line, step_prints, steps_print, names, EveryPlayIsPrinted}
 use Rattle.flash_trace.specs.Steps.{Step, Clock, Say, Run, IsSession, IsSeated, AreSeated}
 use Rattle.flash_trace.proofs.Answering.BeforeLastRun.{turned_behind, turned_from_first}
 use Rattle.flash_trace.proofs.Lists.{get-set_same, get-set_other}

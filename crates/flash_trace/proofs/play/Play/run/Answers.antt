@@ -1,6 +1,6 @@
 use Rattle.std.proofs.Common.{◌≡◌, ◌+◌, ◌-◌, [], Some, sym, ◌∙◌, ap, subst}
 use Rattle.std.specs.Prelude.{slice_set}
-use Rattle.flash_machine.specs.Legal.{IsNew}
+use Rattle.flash_machine.specs.NewSteps.{IsNew}
 use Rattle.flash_trace.specs.Playing.{Seat, StoreState}
 use Rattle.flash_trace.specs.Seats.{entries_of, kept_of, seat_of, state_of}
 use Rattle.flash_trace.specs.Sessions.{reader_of, waiting_of}

@@ -1,5 +1,5 @@
 use Rattle.std.proofs.Common.{◌≡◌, ◌+◌, drop, IsTrue, is_some}
-use Rattle.flash_machine.specs.Legal.{IsNew}
+use Rattle.flash_machine.specs.NewSteps.{IsNew}
 use Rattle.flash_trace.specs.Playing.{act_all}
 use Rattle.flash_trace.specs.Seats.{entries_of, kept_of, seat_of}
 use Rattle.flash_trace.proofs.play.Seat.do_all.Given as goal

@@ -1,0 +1,48 @@
+-- Answers that pass the test of being the same are equal, and each passes it with itself.
+use Rattle.std.proofs.Common.{◌≡◌, ℕ, true, refl, ap, arith}
+use Rattle.std.specs.Prelude.{nat_eq}
+use Rattle.std.proofs.lemmas.Bool.Decides.{nat_tests}
+use Rattle.flash_names.specs.declared.place.Label.{Label}
+use Rattle.flash_names.specs.Labels.{same_label}
+use Rattle.flash_entry.specs.declared.answer.Stored.{Stored}
+use Rattle.flash_entry.specs.declared.answer.Stored.TheVariants as stored
+use Rattle.flash_entry.specs.declared.entry.Residence.{Residence}
+use Rattle.flash_entry.specs.declared.entry.Residence.TheVariants as residence
+use Rattle.flash_machine.specs.Same.{same_stored, same_residence}
+
+pub number_itself : (n : ℕ) → nat_eq n n ≡ true
+number_itself n = grind (arith, nat_tests)
+
+equal_numbers : (one other : ℕ) → nat_eq one other ≡ true → one ≡ other
+equal_numbers one other same = grind (arith, nat_tests)
+
+pub label_itself : (label : Label) → same_label label label ≡ true
+label_itself label = grind (arith, nat_tests)
+
+pub equal_stored : (one other : Stored) → same_stored one other ≡ true → one ≡ other
+equal_stored (stored.Stored one) (stored.Stored other) same = ap stored.Stored (equal_numbers one other same)
+equal_stored stored.NotStored stored.NotStored same = refl
+equal_stored stored.Exists stored.Exists same = refl
+equal_stored stored.NotFound stored.NotFound same = refl
+equal_stored stored.TooLarge stored.TooLarge same = refl
+equal_stored stored.NoNumber stored.NoNumber same = refl
+equal_stored _ _ same = absurd (cc same)
+
+pub stored_itself : (answer : Stored) → same_stored answer answer ≡ true
+stored_itself (stored.Stored cas) = number_itself cas
+stored_itself stored.NotStored = refl
+stored_itself stored.Exists = refl
+stored_itself stored.NotFound = refl
+stored_itself stored.TooLarge = refl
+stored_itself stored.NoNumber = refl
+
+pub residence_itself : (found : Residence) → same_residence found found ≡ true
+residence_itself residence.Nothing = refl
+residence_itself (residence.Here cas) = number_itself cas
+residence_itself (residence.Away cas label) = grind (arith, nat_tests)
+
+-- what is the same as nothing is nothing
+pub equal_nothing : (found : Residence) → same_residence residence.Nothing found ≡ true → residence.Nothing ≡ found
+equal_nothing residence.Nothing same = refl
+equal_nothing (residence.Here cas) same = absurd (cc same)
+equal_nothing (residence.Away cas label) same = absurd (cc same)
