@@ -1,3 +1,4 @@
+mod DigitLemmas
 mod GeometryLineWords
 mod ReadBack
 mod WordLemmas
