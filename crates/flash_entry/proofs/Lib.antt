@@ -1,4 +1,8 @@
+mod Back
+mod BackEntries
 mod DigitLemmas
 mod GeometryLineWords
 mod ReadBack
+mod Sound
+mod SoundEntries
 mod WordLemmas
