@@ -89,7 +89,7 @@ value-decimal n small =
 pub if_below-small : (limit n : ℕ) → n < limit → if_below limit (Some n) ≡ Some n
 if_below-small limit n small = rw (lt-ltb n limit small) refl
 
-number_of-decimal : (n : ℕ) → n < 2 ^ 64 → number_of (decimal n) ≡ Some n
+pub number_of-decimal : (n : ℕ) → n < 2 ^ 64 → number_of (decimal n) ≡ Some n
 number_of-decimal n small =
     let some = decimal_nonempty n small in
     let most = length-decimal-le 20 n (omega arith) (omega arith) small in

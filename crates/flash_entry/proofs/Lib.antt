@@ -2,6 +2,7 @@ mod Back
 mod BackEntries
 mod DigitLemmas
 mod GeometryLineWords
+mod NumberWords
 mod ReadBack
 mod Sound
 mod SoundEntries
