@@ -5,11 +5,14 @@ use Rattle.std.proofs.lemmas.List.Sums.{AllPass-from_list_all}
 use Rattle.std.specs.Option.{option_and_then}
 use Rattle.std.specs.Result.{result_ok}
 use Rattle.std.specs.List.{list_all}
+use Rattle.std.specs.Str.{bytes_eq}
 use Rattle.hex.specs.Hex.{decode_of, decode_pairs, encode_lower, encode_with, lower_digits, hex_digit_value, value_at, pair_value, digit_or_error, IsBytes, ◌>>=◌}
 use Rattle.hex.specs.declared.error.FromHexError.{FromHexError}
 use Rattle.hex.proofs.HexLemmas.{decode_of-ok, decode_of-even, decode_of-encode_lower, IsDigits-lower_digits, length-encode_with}
 use Rattle.flash_names.specs.Numbers.{is_digit}
-use Rattle.flash_entry.specs.WordValues.{if_key, is_lower_digit, bytes_of_digits}
+use Rattle.flash_entry.specs.Text.{hexadecimal}
+use Rattle.flash_entry.specs.IsEntry.{IsKey}
+use Rattle.flash_entry.specs.WordValues.{if_key, is_lower_digit, bytes_of_digits, key_of_digits, value_of_digits}
 use Rattle.flash_entry.proofs.GeometryLineWords.{IsOneWord}
 
 too_long_at : (digits : List ℕ) (read : Result (List ℕ) FromHexError) → 500 < length digits → decode_of digits ≡ read → option_and_then if_key (result_ok read) ≡ None
@@ -109,3 +112,54 @@ digits-spelled i (a ∷ b ∷ rest) bytes lower is =
     let at_b : digit_of (pair.0 % 16) ≡ b = ap digit_of second ∙ digit-spelled b low.0 lower_b.0 is_b in
     let behind = digits-spelled (i + 2) rest more.0 lower_b.1 more.1 in
     rw (← same) (ap (λ (x : ℕ). x ∷ digit_of (pair.0 % 16) ∷ encode_lower more.0) at_a ∙ ap (λ (x : ℕ). a ∷ x ∷ encode_lower more.0) at_b ∙ ap (λ (l : List ℕ). a ∷ b ∷ l) behind)
+
+-- bytes in hexadecimal, which are some
+record Spelled (w bytes : List ℕ) : Type 0 where
+  text : encode_lower bytes ≡ w
+  are_bytes : IsBytes bytes
+  some : 0 < length bytes
+
+read_bytes : (w bytes : List ℕ) (read : Result (List ℕ) FromHexError) → decode_of w ≡ read → 0 < length w → list_all is_lower_digit w ≡ true → result_ok read ≡ Some bytes → Spelled w bytes
+read_bytes w bytes (Err e) read some lower is = absurd (cc is)
+read_bytes w bytes (Ok found) read some lower is =
+    let same : found ≡ bytes = cc is in
+    let at : decode_of w ≡ Ok bytes = read ∙ ap Ok same in
+    let ok = decode_of-ok w bytes at in
+    record {
+      text = digits-spelled 0 w bytes lower (sym (decode_of-even w ok.0) ∙ at);
+      are_bytes = ok.3;
+      some = let twice = ok.2 in omega arith;
+    }
+
+by_both : {A : Type 0} (test : Bool) (all : Option A) (x : A) → (if test then all else None) ≡ Some x → (test ≡ true) × (all ≡ Some x)
+by_both true all x is = (refl, is)
+by_both false all x is = absurd (cc is)
+
+bytes-spelled : (w bytes : List ℕ) → bytes_of_digits w ≡ Some bytes → Spelled w bytes
+unfolding bytes_of_digits
+bytes-spelled w bytes is =
+    let test = by_both (nat_lt 0 (length w) && list_all is_lower_digit w) (result_ok (decode_of w)) bytes is in
+    let tests = both (nat_lt 0 (length w)) (list_all is_lower_digit w) test.0 in
+    let some : 0 < length w = grind (arith, nat_tests, tests.0) in
+    read_bytes w bytes (decode_of w) refl some tests.1 test.1
+
+hexadecimal-some : (bytes : List ℕ) → 0 < length bytes → hexadecimal bytes ≡ 32 ∷ encode_lower bytes
+hexadecimal-some [] some = absurd (omega arith)
+hexadecimal-some (b ∷ bytes) some = refl
+
+key_at : (w key : List ℕ) (read : Option (List ℕ)) → bytes_of_digits w ≡ read → option_and_then if_key read ≡ Some key → (hexadecimal key ≡ 32 ∷ w) × IsKey key
+key_at w key None read is = absurd (cc is)
+key_at w key (Some bytes) read is =
+    let test = by_both (nat_le (length bytes) 250) (Some bytes) key is in
+    let same : bytes ≡ key = cc (test.1) in
+    let spelled = bytes-spelled w key (read ∙ ap Some same) in
+    let short : length bytes ≤ 250 = grind (arith, nat_tests, test.0) in
+    (
+      hexadecimal-some key spelled.some ∙ ap (λ (l : List ℕ). 32 ∷ l) spelled.text,
+      record { bytes = spelled.are_bytes; some = let s = spelled.some in omega arith; fits = let n = ap length same in omega arith },
+    )
+
+-- a key that is read is printed as its word
+pub key-spelled : (w key : List ℕ) → key_of_digits w ≡ Some key → (hexadecimal key ≡ 32 ∷ w) × IsKey key
+unfolding key_of_digits
+key-spelled w key is = key_at w key (bytes_of_digits w) refl is

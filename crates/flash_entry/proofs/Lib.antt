@@ -1,6 +1,7 @@
 mod Back
 mod BackEntries
 mod DigitLemmas
+mod FixedLemmas
 mod GeometryLineWords
 mod NumberWords
 mod ReadBack
