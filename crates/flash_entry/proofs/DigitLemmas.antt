@@ -1,5 +1,5 @@
 -- Hexadecimal digits, as they are printed and as they are read.
-use Rattle.std.proofs.Common.{◌≡◌, ℕ, zero, suc, ◌+◌, ◌-◌, ◌*◌, ◌/◌, ◌%◌, ◌<◌, ◌≤◌, Bool, true, false, ◌&&◌, ◌||◌, ◌==◌, not, nat_lt, nat_le, List, [], ◌∷◌, length, get_or, Option, None, Some, Result, Ok, Err, if◌then◌else◌, refl, sym, ◌∙◌, ap, ◌⊎◌, inl, inr, arith}
+use Rattle.std.proofs.Common.{◌≡◌, ℕ, zero, suc, ◌+◌, ◌-◌, ◌*◌, ◌/◌, ◌%◌, ◌<◌, ◌≤◌, Bool, true, false, ◌&&◌, ◌||◌, ◌==◌, not, nat_lt, nat_le, List, [], ◌∷◌, length, get_or, Option, None, Some, Result, Ok, Err, if◌then◌else◌, codes, refl, sym, ◌∙◌, ap, subst, ◌⊎◌, inl, inr, arith}
 use Rattle.std.proofs.lemmas.Bool.Decides.{nat_tests}
 use Rattle.std.proofs.lemmas.List.Sums.{AllPass-from_list_all}
 use Rattle.std.specs.Option.{option_and_then}
@@ -14,6 +14,7 @@ use Rattle.flash_entry.specs.Text.{hexadecimal}
 use Rattle.flash_entry.specs.IsEntry.{IsKey}
 use Rattle.flash_entry.specs.WordValues.{if_key, is_lower_digit, bytes_of_digits, key_of_digits, value_of_digits}
 use Rattle.flash_entry.proofs.GeometryLineWords.{IsOneWord}
+use Rattle.flash_entry.proofs.FixedLemmas.{same_bytes}
 
 too_long_at : (digits : List ℕ) (read : Result (List ℕ) FromHexError) → 500 < length digits → decode_of digits ≡ read → option_and_then if_key (result_ok read) ≡ None
 too_long_at digits (Ok bytes) long is =
@@ -163,3 +164,16 @@ key_at w key (Some bytes) read is =
 pub key-spelled : (w key : List ℕ) → key_of_digits w ≡ Some key → (hexadecimal key ≡ 32 ∷ w) × IsKey key
 unfolding key_of_digits
 key-spelled w key is = key_at w key (bytes_of_digits w) refl is
+
+value_at_dash : (w value : List ℕ) (dash : Bool) → bytes_eq w (codes "-") ≡ dash → (if dash then Some [] else bytes_of_digits w) ≡ Some value → (hexadecimal value ≡ 32 ∷ w) × IsBytes value
+value_at_dash w value true at is =
+    let same : [] ≡ value = cc is in
+    subst (λ v. (hexadecimal v ≡ 32 ∷ w) × IsBytes v) same (ap (λ (l : List ℕ). 32 ∷ l) (sym (same_bytes w (codes "-") at)), λ i. omega arith)
+value_at_dash w value false at is =
+    let spelled = bytes-spelled w value is in
+    (hexadecimal-some value spelled.some ∙ ap (λ (l : List ℕ). 32 ∷ l) spelled.text, spelled.are_bytes)
+
+-- a value that is read is printed as its word
+pub value-spelled : (w value : List ℕ) → value_of_digits w ≡ Some value → (hexadecimal value ≡ 32 ∷ w) × IsBytes value
+unfolding value_of_digits
+value-spelled w value is = value_at_dash w value (bytes_eq w (codes "-")) refl is

@@ -7,4 +7,5 @@ mod NumberWords
 mod ReadBack
 mod Sound
 mod SoundEntries
+mod SoundFields
 mod WordLemmas

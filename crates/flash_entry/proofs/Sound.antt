@@ -1,9 +1,11 @@
 -- What a reading has is spelled by the words that it took.
-use Rattle.std.proofs.Common.{◌≡◌, ℕ, ◌==◌, Bool, true, false, List, [], ◌∷◌, ◌++◌, Option, None, Some, Result, Ok, Err, if◌then◌else◌, refl, sym, ◌∙◌, ap, subst, append_assoc, arith}
+use Rattle.std.proofs.Common.{◌≡◌, ℕ, ◌+◌, ◌==◌, Bool, true, false, List, [], ◌∷◌, ◌++◌, Option, None, Some, Result, Ok, Err, if◌then◌else◌, refl, sym, ◌∙◌, ap, subst, append_assoc, arith}
 use Rattle.std.proofs.lemmas.Bool.Decides.{nat_tests}
+use Rattle.std.specs.Str.{bytes_eq}
 use Rattle.flash_names.specs.Words.{words, in_first}
 use Rattle.flash_entry.specs.declared.entry_fault.EntryFault.{EntryFault}
 use Rattle.flash_entry.specs.Readings.{Left, Outcome, Reading, and_then, ◌>>=◌, give, value_or, next_word, first_word}
+use Rattle.flash_entry.proofs.FixedLemmas.{same_bytes}
 
 -- words, each with the space before it
 abbrev pub spaced : List (List ℕ) → List ℕ
@@ -66,3 +68,42 @@ goes_on {text = text} {IsIn = IsIn} {first = first} {out = out} {IsOut = IsOut} 
 -- nothing was taken yet
 pub at_start : (left : Left) → Begin (spaced left.words) [] left
 at_start left = record { is = refl }
+
+sound_or : {A : Type 0} (text : A → List ℕ) (IsIn : A → Type 0) (bytes : List ℕ) (value : Option A) (bad : ℕ → EntryFault) (left : Left) → ((v : A) → value ≡ Some v → Begin bytes (text v) left × IsIn v) → Sound text IsIn bytes (value_or value bad left)
+sound_or text IsIn bytes None bad left each = record { holds = λ v l is. absurd (cc is) }
+sound_or text IsIn bytes (Some v) bad left each = let at = each v refl in given at.0 at.1
+
+one_of_words : {A : Type 0} (text : A → List ℕ) (IsIn : A → Type 0) (value_of : List ℕ → Option A) (bad : ℕ → EntryFault) (ws : List (List ℕ)) (place : ℕ)
+    → ((w : List ℕ) (v : A) → value_of w ≡ Some v → (text v ≡ 32 ∷ w) × IsIn v) → Sound text IsIn (spaced ws) (and_then (first_word ws place) (λ word. value_or (value_of word) bad))
+one_of_words text IsIn value_of bad [] place each = record { holds = λ v l is. absurd (cc is) }
+one_of_words text IsIn value_of bad (w ∷ ws) place each =
+    sound_or text IsIn (spaced (w ∷ ws)) (value_of w) bad (record { words = ws; place = place + 1 }) (λ v is.
+    let at = each w v is in
+    (record { is = ap (λ (l : List ℕ). l ++ spaced ws) (sym at.0) }, at.1))
+
+-- a word that stands for a value is the value's text
+pub one_word : {A : Type 0} {text : A → List ℕ} {IsIn : A → Type 0} (value_of : List ℕ → Option A) (bad : ℕ → EntryFault)
+    → ((w : List ℕ) (v : A) → value_of w ≡ Some v → (text v ≡ 32 ∷ w) × IsIn v) → IsSound text IsIn (next_word >>= (λ word. value_or (value_of word) bad))
+unfolding next_word
+one_word {text = text} {IsIn = IsIn} value_of bad each = record { from = λ left. one_of_words text IsIn value_of bad left.words left.place each }
+
+next_of : (ws : List (List ℕ)) (place : ℕ) → Sound (λ w. 32 ∷ w) (λ _. Unit {0}) (spaced ws) (first_word ws place)
+next_of [] place = record { holds = λ v l is. absurd (cc is) }
+next_of (w ∷ ws) place = given (record { is = refl }) tt
+
+-- any word is its own text
+pub next_word-sound : IsSound (λ w. 32 ∷ w) (λ _. Unit {0}) next_word
+unfolding next_word
+next_word-sound = record { from = λ left. next_of left.words left.place }
+
+sound_if_at : {A : Type 0} (text : A → List ℕ) (IsIn : A → Type 0) (bytes : List ℕ) (test : Bool) (first other : Reading A) (left : Left)
+    → (test ≡ true → Sound text IsIn bytes (first left)) → Sound text IsIn bytes (other left) → Sound text IsIn bytes ((if test then first else other) left)
+sound_if_at text IsIn bytes true first other left here there = here refl
+sound_if_at text IsIn bytes false first other left here there = there
+
+-- one reading after this word, and another after any other
+pub sound_if : {A : Type 0} (text : A → List ℕ) (IsIn : A → Type 0) (bytes w c : List ℕ) (first other : Reading A) (left : Left) → Begin bytes (32 ∷ w) left
+    → (Begin bytes (32 ∷ c) left → Sound text IsIn bytes (first left)) → Sound text IsIn bytes (other left) → Sound text IsIn bytes ((if bytes_eq w c then first else other) left)
+sound_if text IsIn bytes w c first other left begin here there =
+    sound_if_at text IsIn bytes (bytes_eq w c) first other left
+    (λ is. here (record { is = begin.is ∙ ap (λ (l : List ℕ). (32 ∷ l) ++ spaced left.words) (same_bytes w c is) })) there
