@@ -8,4 +8,5 @@ mod ReadBack
 mod Sound
 mod SoundEntries
 mod SoundFields
+mod SoundSteps
 mod WordLemmas

@@ -69,7 +69,7 @@ goes_on {text = text} {IsIn = IsIn} {first = first} {out = out} {IsOut = IsOut} 
 pub at_start : (left : Left) → Begin (spaced left.words) [] left
 at_start left = record { is = refl }
 
-sound_or : {A : Type 0} (text : A → List ℕ) (IsIn : A → Type 0) (bytes : List ℕ) (value : Option A) (bad : ℕ → EntryFault) (left : Left) → ((v : A) → value ≡ Some v → Begin bytes (text v) left × IsIn v) → Sound text IsIn bytes (value_or value bad left)
+pub sound_or : {A : Type 0} (text : A → List ℕ) (IsIn : A → Type 0) (bytes : List ℕ) (value : Option A) (bad : ℕ → EntryFault) (left : Left) → ((v : A) → value ≡ Some v → Begin bytes (text v) left × IsIn v) → Sound text IsIn bytes (value_or value bad left)
 sound_or text IsIn bytes None bad left each = record { holds = λ v l is. absurd (cc is) }
 sound_or text IsIn bytes (Some v) bad left each = let at = each v refl in given at.0 at.1
 
@@ -107,3 +107,7 @@ pub sound_if : {A : Type 0} (text : A → List ℕ) (IsIn : A → Type 0) (bytes
 sound_if text IsIn bytes w c first other left begin here there =
     sound_if_at text IsIn bytes (bytes_eq w c) first other left
     (λ is. here (record { is = begin.is ∙ ap (λ (l : List ℕ). (32 ∷ l) ++ spaced left.words) (same_bytes w c is) })) there
+
+-- the same text written otherwise
+pub begin_as : {bytes text other : List ℕ} {left : Left} → text ≡ other → Begin bytes text left → Begin bytes other left
+begin_as {left = left} same at = record { is = at.is ∙ ap (λ (l : List ℕ). l ++ spaced left.words) same }
