@@ -1,5 +1,5 @@
 -- An entry is spelled by its words.
-use Rattle.std.proofs.Common.{◌≡◌, ℕ, List, [], ◌∷◌, ◌++◌, Option, None, Some, IfSome, Result, Ok, Err, codes, refl, sym, ◌∙◌, ap, append-nil}
+use Rattle.std.proofs.Common.{◌≡◌, ℕ, List, [], ◌∷◌, ◌++◌, Option, None, Some, IfSome, Result, Ok, Err, codes, refl, sym, ◌∙◌, ap, append_assoc, append-nil}
 use Rattle.flash_names.specs.Words.{words}
 use Rattle.flash_entry.specs.declared.entry_fault.EntryFault.{EntryFault}
 use Rattle.flash_entry.specs.declared.entry_fault.EntryFault.TheVariants.{BadWord}
@@ -16,7 +16,8 @@ use Rattle.flash_entry.specs.declared.kinds.PageKind.{PageKind}
 use Rattle.flash_entry.specs.declared.kinds.PageKind.TheVariants as pages
 use Rattle.flash_entry.specs.Text.{word, number, line_end}
 use Rattle.flash_entry.specs.EntryText.{residence_text, close_text, kind_word, entry_rest, entry_line}
-use Rattle.flash_entry.specs.Readings.{Left, Outcome, Reading, and_then, end_of_line, no_more}
+use Rattle.flash_entry.specs.Readings.{Left, Outcome, Reading, and_then, give, end_of_line, no_more}
+use Rattle.flash_entry.specs.FieldReading as fields
 use Rattle.flash_entry.specs.EntryReading.{residence_at, residence_of, residence, hit, lost, close_of, close, clock, did, looked, buffered, read_began, read_ended, closed, moved, recached, dropped, write_began, write_ended, opened, ended, freed, of_step, of_lookup, of_item, of_page, of_kind, whole, value_of, reading}
 use Rattle.flash_entry.specs.IsEntry.{IsNumber, IsNarrow, IsResidence, IsClose, IsEntry}
 use Rattle.flash_entry.proofs.FixedLemmas.{kind_text}
@@ -30,7 +31,7 @@ unfolding residence_at
 residence_at-sound cas None bytes left at is_cas is_page = given at is_cas
 residence_at-sound cas (Some page) bytes left at is_cas is_page =
     goes_on number-sound at (λ version left at is_version.
-    given (begin_as ? at) (is_cas, record { page = is_page; version = is_version }))
+    given (begin_as (append_assoc (number cas) (number page) (number version)) at) (is_cas, record { page = is_page; version = is_version }))
 
 residence_of-sound : (cas : Option ℕ) (bytes : List ℕ) (left : Left) → Begin bytes (number_or_none_text cas) left → IfSome cas IsNumber
     → Sound residence_text IsResidence bytes (residence_of cas left)
@@ -228,3 +229,73 @@ of_kind-sound (kinds.Page pages.WriteEnded) = write_ended-sound
 of_kind-sound (kinds.Page pages.Opened) = opened-sound
 of_kind-sound (kinds.Page pages.Ended) = ended-sound
 of_kind-sound (kinds.Page pages.Freed) = freed-sound
+
+end_of_words : (ws : List (List ℕ)) (place : ℕ) → Sound (λ _. []) (λ _. Unit {0}) (spaced ws) (no_more ws place)
+end_of_words [] place = given (record { is = refl }) tt
+end_of_words (w ∷ ws) place = record { holds = λ v l is. absurd (cc is) }
+
+end-sound : IsSound (λ _. []) (λ _. Unit {0}) end_of_line
+unfolding end_of_line
+end-sound = record { from = λ left. end_of_words left.words left.place }
+
+-- the line without its line feed, with a space before it
+abbrev text_of : Entry → List ℕ
+text_of entry = word (kind_word entry) ++ entry_rest entry
+
+whole-sound : IsSound text_of IsEntry whole
+unfolding whole
+whole-sound =
+    record {
+      from = λ left.
+          goes_on kind-sound (at_start left) (λ kind left at _.
+          goes_on (of_kind-sound kind) at (λ entry left at is_of.
+          goes_on end-sound at (λ _ left at _.
+          given
+          (begin_as (append-nil (word (kind_text kind) ++ entry_rest entry) ∙ ap (λ (l : List ℕ). word l ++ entry_rest entry) (sym is_of.0)) at)
+          is_of.1)));
+    }
+
+-- no word is left
+record Ends {A : Type 0} (outcome : Outcome A) : Type 0 where
+  holds : (value : A) (left : Left) → outcome ≡ Ok (value, left) → left.words ≡ []
+
+ends_after : {A B : Type 0} (outcome : Outcome A) (next : A → Reading B) → ((value : A) (left : Left) → Ends (next value left)) → Ends (and_then outcome next)
+ends_after (Ok read) next each = each read.0 read.1
+ends_after (Err fault) next each = record { holds = λ v l is. absurd (cc is) }
+
+ends_with : (entry : Entry) (ws : List (List ℕ)) (place : ℕ) → Ends (and_then (no_more ws place) (λ _. give entry))
+ends_with entry [] place =
+    let end : Left = record { words = []; place = place } in
+    record { holds = λ v l is. let same : (v, l) ≡ (entry, end) = cc is in ap (λ (read : Entry × Left). read.1.words) same }
+ends_with entry (w ∷ ws) place = record { holds = λ v l is. absurd (cc is) }
+
+whole-ends : (left : Left) → Ends (whole left)
+unfolding whole end_of_line
+whole-ends left =
+    ends_after (fields.kind left) _ (λ kind left. ends_after (of_kind kind left) _ (λ entry left. ends_with entry left.words left.place))
+
+value_is : {A : Type 0} (outcome : Outcome A) (value : A) → value_of outcome ≡ Ok value → (left : Left) × (outcome ≡ Ok (value, left))
+value_is (Ok read) value is = let same : read.0 ≡ value = cc is in (read.1, ap (λ v. Ok (v, read.1)) same)
+value_is (Err fault) value is = absurd (cc is)
+
+same_line : (line text : List ℕ) (ws : List (List ℕ)) → 32 ∷ line ≡ (32 ∷ text) ++ spaced ws → ws ≡ [] → text ≡ line
+same_line line text ws is none =
+    let alone : 32 ∷ line ≡ (32 ∷ text) ++ [] = is ∙ ap (λ (l : List (List ℕ)). (32 ∷ text) ++ spaced l) none in
+    let behind : line ≡ text ++ [] = cc alone in
+    sym (append-nil text) ∙ sym behind
+
+-- what a line is read as is in range, and has that line
+pub spelled_line : (line : List ℕ) (entry : Entry) → reading line ≡ Ok entry → (kind_word entry ++ entry_rest entry ≡ line) × IsEntry entry
+unfolding reading
+spelled_line line entry is =
+    let start : Left = record { words = words line; place = 0 } in
+    let read = value_is (whole start) entry is in
+    let at = (whole-sound.from start).holds entry read.0 read.1 in
+    let none = (whole-ends start).holds entry read.0 read.1 in
+    (same_line line (kind_word entry ++ entry_rest entry) read.0.words (sym (spaced-words line) ∙ at.0.is) none, at.1)
+
+pub its_line : (entry : Entry) (line : List ℕ) → reading line ≡ Ok entry → entry_line entry ≡ line ++ line_end
+its_line entry line is = ap (λ (l : List ℕ). l ++ line_end) (spelled_line line entry is).0
+
+pub is_entry : (line : List ℕ) (entry : Entry) → reading line ≡ Ok entry → IsEntry entry
+is_entry line entry is = (spelled_line line entry is).1
