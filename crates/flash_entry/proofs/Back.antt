@@ -2,7 +2,8 @@
 use Rattle.std.proofs.Common.{◌≡◌, ℕ, ◌+◌, List, [], ◌∷◌, ◌++◌, length, Option, Some, Ok, refl, sym, ◌∙◌, ap, append_assoc, append-nil, length-append, arith}
 use Rattle.flash_entry.specs.declared.entry_fault.EntryFault.{EntryFault}
 use Rattle.flash_entry.specs.Readings.{Left, Outcome, Reading, and_then, ◌>>=◌, give, value_or, next_word}
-use Rattle.flash_entry.proofs.GeometryLineWords.{IsOneWord}
+use Rattle.flash_names.specs.Words.{words}
+use Rattle.flash_entry.proofs.GeometryLineWords.{IsOneWord, words-one, words-append}
 use Rattle.flash_entry.proofs.Sound.{spaced}
 
 -- these words at this place
@@ -38,25 +39,47 @@ then_reads first next value out ws vs more place is then_is =
     ap (λ (l : List (List ℕ)). and_then (first (left_at l place)) next) (append_assoc ws vs more)
     ∙ ap (λ o. and_then o next) is ∙ then_is ∙ ap (λ (n : ℕ). Ok (out, left_at more n)) count
 
--- the words of two texts, one after the other
-pub also : {A B : Type 0} {first : Reading A} {text : List ℕ} {value : A} {more_text : List ℕ} {out : B} (next : A → Reading B)
-    → ReadsBack first text value → ReadsBack (next value) more_text out → ReadsBack (λ left. and_then (first left) next) (text ++ more_text) out
-also {first = first} {text = text} {value = value} {more_text = more_text} {out = out} next a b =
+-- a text and these after it
+abbrev pub with_parts : List ℕ → List (List ℕ) → List ℕ
+with_parts text [] = text
+with_parts text (part ∷ parts) = with_parts (text ++ part) parts
+
+-- the words of these texts, one after the other, are read as the value
+pub record ReadsParts {A : Type 0} (reading : Reading A) (parts : List (List ℕ)) (value : A) : Type 0 where
+  pub words : List (List ℕ)
+  pub spelled : (front : List ℕ) → with_parts front parts ≡ front ++ spaced words
+  pub one : AreWords words
+  pub read : (more : List (List ℕ)) (place : ℕ) → reading (left_at (words ++ more) place) ≡ Ok (value, left_at more (place + length words))
+
+spelled_after : (front text : List ℕ) (parts ws vs : List (List ℕ)) → text ≡ spaced ws → with_parts (front ++ text) parts ≡ (front ++ text) ++ spaced vs
+    → with_parts front (text ∷ parts) ≡ front ++ spaced (ws ++ vs)
+spelled_after front text parts ws vs is more =
+    more ∙ append_assoc front text (spaced vs) ∙ ap (λ (l : List ℕ). front ++ (l ++ spaced vs)) is ∙ ap (λ (l : List ℕ). front ++ l) (sym (spaced-append ws vs))
+
+-- a text, and those after it
+pub also : {A B : Type 0} {first : Reading A} {text : List ℕ} {value : A} {parts : List (List ℕ)} {out : B} (next : A → Reading B)
+    → ReadsBack first text value → ReadsParts (next value) parts out → ReadsParts (λ left. and_then (first left) next) (text ∷ parts) out
+also {first = first} {text = text} {value = value} {parts = parts} {out = out} next a b =
     record {
       words = a.words ++ b.words;
-      spelled = ap (λ (l : List ℕ). l ++ more_text) a.spelled ∙ ap (λ (l : List ℕ). spaced a.words ++ l) b.spelled ∙ sym (spaced-append a.words b.words);
+      spelled = λ front. spelled_after front text parts a.words b.words a.spelled (b.spelled (front ++ text));
       one = AreWords-append a.words b.words a.one b.one;
       read = λ more place. then_reads first next value out a.words b.words more place (a.read (b.words ++ more) place) (b.read more (place + length a.words));
     }
 
 -- no text
-pub nothing : {A : Type 0} {value : A} → ReadsBack (give value) [] value
+pub nothing : {A : Type 0} {value : A} → ReadsParts (give value) [] value
 nothing {value = value} =
-    record { words = []; spelled = refl; one = tt; read = λ more place. let same : place ≡ place + 0 = omega arith in ap (λ (n : ℕ). Ok (value, left_at more n)) same }
+    record {
+      words = [];
+      spelled = λ front. sym (append-nil front);
+      one = tt;
+      read = λ more place. let same : place ≡ place + 0 = omega arith in ap (λ (n : ℕ). Ok (value, left_at more n)) same;
+    }
 
--- the same text written otherwise
-pub as_text : {A : Type 0} {reading : Reading A} {text other : List ℕ} {value : A} → other ≡ text → ReadsBack reading text value → ReadsBack reading other value
-as_text same a = record { words = a.words; spelled = same ∙ a.spelled; one = a.one; read = a.read }
+-- the texts as one
+pub in_order : {A : Type 0} {reading : Reading A} {text : List ℕ} {parts : List (List ℕ)} {value : A} → ReadsParts reading (text ∷ parts) value → ReadsBack reading (with_parts text parts) value
+in_order a = record { words = a.words; spelled = a.spelled []; one = a.one; read = a.read }
 
 -- a word that has a value
 pub one_back : {A : Type 0} {value : A} (value_of : List ℕ → Option A) (bad : ℕ → EntryFault) (w : List ℕ) → IsOneWord w → value_of w ≡ Some value
@@ -69,3 +92,16 @@ one_back {value = value} value_of bad w one is =
       one = (one, tt);
       read = λ more place. ap (λ o. value_or o bad (left_at more (place + 1))) is;
     }
+
+-- any word
+pub next_word-back : (w : List ℕ) → IsOneWord w → ReadsBack next_word (32 ∷ w) w
+unfolding next_word
+next_word-back w one =
+    record { words = w ∷ []; spelled = ap (λ (l : List ℕ). 32 ∷ l) (sym (append-nil w)); one = (one, tt); read = λ more place. refl }
+
+-- words with a space before each are those of the line
+pub words-spaced : (w : List ℕ) (ws : List (List ℕ)) → IsOneWord w → AreWords ws → words (w ++ spaced ws) ≡ w ∷ ws
+words-spaced w [] one ones = ap words (append-nil w) ∙ words-one w one
+words-spaced w (v ∷ vs) one ones =
+    words-append w (v ++ spaced vs) ∙ ap (λ (l : List (List ℕ)). l ++ words (v ++ spaced vs)) (words-one w one)
+    ∙ ap (λ (l : List (List ℕ)). w ∷ l) (words-spaced v vs ones.0 ones.1)

@@ -177,3 +177,50 @@ value_at_dash w value false at is =
 pub value-spelled : (w value : List ℕ) → value_of_digits w ≡ Some value → (hexadecimal value ≡ 32 ∷ w) × IsBytes value
 unfolding value_of_digits
 value-spelled w value is = value_at_dash w value (bytes_eq w (codes "-")) refl is
+
+-- ---- what is printed is read so
+
+lower-encode : (bytes : List ℕ) → IsBytes bytes → list_all is_lower_digit (encode_lower bytes) ≡ true
+unfolding encode_with
+lower-encode [] are_bytes = refl
+lower-encode (b ∷ bytes) are_bytes =
+    let small : b < 256 = are_bytes 0 in
+    let high = lower-digit_of (b / 16) (omega arith) in
+    let low = lower-digit_of (b % 16) (omega arith) in
+    rw (high, low) (lower-encode bytes (λ i. are_bytes (suc i)))
+
+lower_word : (w : List ℕ) → list_all is_lower_digit w ≡ true → IsOneWord w
+lower_word [] lower = tt
+lower_word (d ∷ ds) lower =
+    let at = both (is_lower_digit d) (list_all is_lower_digit ds) lower in
+    (grind (arith, nat_tests, at.0), lower_word ds at.1)
+
+-- hexadecimal digits are one word
+pub digits-word : (bytes : List ℕ) → IsBytes bytes → IsOneWord (encode_lower bytes)
+digits-word bytes are_bytes = lower_word (encode_lower bytes) (lower-encode bytes are_bytes)
+
+pub bytes-back : (bytes : List ℕ) → IsBytes bytes → 0 < length bytes → bytes_of_digits (encode_lower bytes) ≡ Some bytes
+unfolding bytes_of_digits
+bytes-back bytes are_bytes some =
+    let twice = length-encode_with lower_digits bytes in
+    let any : nat_lt 0 (length (encode_lower bytes)) ≡ true = grind (arith, nat_tests, twice) in
+    rw (any, lower-encode bytes are_bytes, decode_of-encode_lower bytes are_bytes) refl
+
+pub key-back : (key : List ℕ) → IsKey key → key_of_digits (encode_lower key) ≡ Some key
+unfolding key_of_digits
+key-back key is =
+    let short : nat_le (length key) 250 ≡ true = let fits = is.fits in grind (arith, nat_tests) in
+    rw (bytes-back key is.bytes is.some, short) refl
+
+dash-digits : bytes_of_digits (codes "-") ≡ None
+unfolding bytes_of_digits
+dash-digits = refl
+
+value_or_dash : (bytes : List ℕ) (dash : Bool) → bytes_eq (encode_lower bytes) (codes "-") ≡ dash → IsBytes bytes → 0 < length bytes
+    → (if dash then Some [] else bytes_of_digits (encode_lower bytes)) ≡ Some bytes
+value_or_dash bytes true at are_bytes some = absurd (cc (bytes-back bytes are_bytes some, ap bytes_of_digits (same_bytes (encode_lower bytes) (codes "-") at), dash-digits))
+value_or_dash bytes false at are_bytes some = bytes-back bytes are_bytes some
+
+pub value-back : (bytes : List ℕ) → IsBytes bytes → 0 < length bytes → value_of_digits (encode_lower bytes) ≡ Some bytes
+unfolding value_of_digits
+value-back bytes are_bytes some = value_or_dash bytes (bytes_eq (encode_lower bytes) (codes "-")) refl are_bytes some

@@ -18,7 +18,7 @@ one_word-with_more : (front : List ℕ) (b : ℕ) → IsOneWord front → (b == 
 one_word-with_more [] b front last = (last, tt)
 one_word-with_more (x ∷ front) b one last = (one.0, one_word-with_more front b one.1 last)
 
-other_than_space : (n : ℕ) → (48 + n == 32) ≡ false
+pub other_than_space : (n : ℕ) → (48 + n == 32) ≡ false
 other_than_space n = grind (arith, nat_tests)
 
 pub one_word-decimal : (n : ℕ) → n < 2 ^ 64 → IsOneWord (decimal n)
@@ -40,7 +40,7 @@ by_space b true us ws vs same some = ap (λ (l : List (List ℕ)). [] ∷ l) sam
 by_space b false us ws vs same some = ap (in_first b) same ∙ in_first-front b ws vs some
 
 -- the words on both sides of a space
-words-append : (front back : List ℕ) → words (front ++ 32 ∷ back) ≡ words front ++ words back
+pub words-append : (front back : List ℕ) → words (front ++ 32 ∷ back) ≡ words front ++ words back
 words-append [] back = refl
 words-append (b ∷ front) back =
     by_space b (b == 32) (words (front ++ 32 ∷ back)) (words front) (words back) (words-append front back) (omega (arith, length-words front))

@@ -1,5 +1,5 @@
 mod Back
-mod BackEntries
+mod BackFields
 mod DigitLemmas
 mod FixedLemmas
 mod GeometryLineWords

@@ -12,7 +12,7 @@ use Rattle.std.specs.Str.{all_ascii_digits}
 use Rattle.std.specs.Option.{option_and_then, option_map}
 use Rattle.flash_names.specs.Numbers.{is_digit, value_from, if_below, number_of}
 use Rattle.flash_entry.specs.WordValues.{has_leading_zero, plain_number, narrow_number, below_zero, signed_number}
-use Rattle.flash_entry.proofs.GeometryLineWords.{if_below-small, number_of-decimal}
+use Rattle.flash_entry.proofs.GeometryLineWords.{IsOneWord, one_word-decimal, if_below-small, number_of-decimal}
 
 -- ---- what is read is printed so
 
@@ -143,3 +143,8 @@ signed-back (pos n) fits = let small : n < 2 ^ 63 = fits.sfits in signed_plain (
 signed-back (negsuc n) fits =
     let small : n < 2 ^ 63 = fits.sfits in
     ap (option_and_then below_zero) (plain-back (suc n) (omega arith)) ∙ (rw (lt-ltb n (2 ^ 63) small) refl)
+
+-- a signed number is one word
+pub signed-word : (z : ℤ) → FitsSigned w64 z → IsOneWord (signed_decimal z)
+signed-word (pos n) fits = let small : n < 2 ^ 63 = fits.sfits in one_word-decimal n (omega arith)
+signed-word (negsuc n) fits = let small : n < 2 ^ 63 = fits.sfits in (refl, one_word-decimal (suc n) (omega arith))
