@@ -81,6 +81,10 @@ nothing {value = value} =
 pub in_order : {A : Type 0} {reading : Reading A} {text : List ℕ} {parts : List (List ℕ)} {value : A} → ReadsParts reading (text ∷ parts) value → ReadsBack reading (with_parts text parts) value
 in_order a = record { words = a.words; spelled = a.spelled []; one = a.one; read = a.read }
 
+-- the same text written otherwise
+pub as_text : {A : Type 0} {reading : Reading A} {text other : List ℕ} {value : A} → text ≡ other → ReadsBack reading text value → ReadsBack reading other value
+as_text same a = record { words = a.words; spelled = sym same ∙ a.spelled; one = a.one; read = a.read }
+
 -- a word that has a value
 pub one_back : {A : Type 0} {value : A} (value_of : List ℕ → Option A) (bad : ℕ → EntryFault) (w : List ℕ) → IsOneWord w → value_of w ≡ Some value
     → ReadsBack (λ left. and_then (next_word left) (λ word. value_or (value_of word) bad)) (32 ∷ w) value

@@ -1,5 +1,7 @@
 mod Back
+mod BackEntries
 mod BackFields
+mod BackSteps
 mod DigitLemmas
 mod FixedLemmas
 mod GeometryLineWords

@@ -1,5 +1,5 @@
 -- An entry is spelled by its words.
-use Rattle.std.proofs.Common.{◌≡◌, ℕ, List, [], ◌∷◌, ◌++◌, Option, None, Some, IfSome, Result, Ok, Err, codes, refl, sym, ◌∙◌, ap, append_assoc, append-nil}
+use Rattle.std.proofs.Common.{◌≡◌, ℕ, List, [], ◌∷◌, ◌++◌, Option, None, Some, IfSome, Result, Ok, Err, IfOk, codes, refl, sym, ◌∙◌, ap, append_assoc, append-nil}
 use Rattle.flash_names.specs.Words.{words}
 use Rattle.flash_entry.specs.declared.entry_fault.EntryFault.{EntryFault}
 use Rattle.flash_entry.specs.declared.entry_fault.EntryFault.TheVariants.{BadWord}
@@ -16,7 +16,7 @@ use Rattle.flash_entry.specs.declared.kinds.PageKind.{PageKind}
 use Rattle.flash_entry.specs.declared.kinds.PageKind.TheVariants as pages
 use Rattle.flash_entry.specs.Text.{word, number, line_end}
 use Rattle.flash_entry.specs.EntryText.{residence_text, close_text, kind_word, entry_rest, entry_line}
-use Rattle.flash_entry.specs.Readings.{Left, Outcome, Reading, and_then, give, end_of_line, no_more}
+use Rattle.flash_entry.specs.Readings.{Left, Outcome, Reading, ReadsInMemory, and_then, give, end_of_line, no_more}
 use Rattle.flash_entry.specs.FieldReading as fields
 use Rattle.flash_entry.specs.EntryReading.{residence_at, residence_of, residence, hit, lost, close_of, close, clock, did, looked, buffered, read_began, read_ended, closed, moved, recached, dropped, write_began, write_ended, opened, ended, freed, of_step, of_lookup, of_item, of_page, of_kind, whole, value_of, reading}
 use Rattle.flash_entry.specs.IsEntry.{IsNumber, IsNarrow, IsResidence, IsClose, IsEntry}
@@ -299,3 +299,11 @@ its_line entry line is = ap (λ (l : List ℕ). l ++ line_end) (spelled_line lin
 
 pub is_entry : (line : List ℕ) (entry : Entry) → reading line ≡ Ok entry → IsEntry entry
 is_entry line entry is = (spelled_line line entry is).1
+
+-- what a call reads of the words of a line is in range
+pub if_entry : (line : List ℕ) (start left : Left) (result : Result Entry EntryFault) → start ≡ record { words = words line; place = 0 } → ReadsInMemory (whole start) result left
+    → IfOk result IsEntry
+unfolding reading
+if_entry line start left (Ok entry) begins is =
+    is_entry line entry (ap (λ (l : Left). value_of (whole l)) (sym begins) ∙ ap value_of is)
+if_entry line start left (Err fault) begins is = tt

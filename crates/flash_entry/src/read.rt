@@ -3,6 +3,7 @@ ghost use Rattle.flash_entry.specs.declared.entry_fault.EntryFault.TheVariants.{
 ghost use Rattle.flash_entry.specs.Readings.{Reads, ReadsInMemory};
 ghost use Rattle.flash_entry.specs.EntryReading as forms;
 ghost use Rattle.flash_entry.specs.EntryReading.{reading};
+ghost use Rattle.flash_entry.specs.IsEntry.{IsEntry};
 
 use crate::cursor::Cursor;
 use crate::kinds::{ItemKind, Kind, LookupKind, PageKind, StepKind};
@@ -18,6 +19,7 @@ use std::alloc::Global;
 #[tactic(auto, unfolding(crate::specs::EntryReading::reading))]
 pub fn read_entry(alloc: Global, line: &[u8]) -> Result<Entry, EntryFault>
     ensures entry { IfOk result (λ entry. reading line.now ≡ Ok entry) }
+    ensures fits { IfOk result IsEntry }
     ensures fault { IfErr result (λ fault. fault ≢ NoMemory → reading line.now ≡ Err fault) }
 {
     whole(alloc, &mut Cursor::new(line))
