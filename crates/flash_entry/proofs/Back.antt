@@ -1,7 +1,7 @@
 -- What is spelled is read back.
 use Rattle.std.proofs.Common.{◌≡◌, ℕ, ◌+◌, List, [], ◌∷◌, ◌++◌, length, Option, Some, Ok, refl, sym, ◌∙◌, ap, append_assoc, append-nil, length-append, arith}
 use Rattle.flash_entry.specs.declared.entry_fault.EntryFault.{EntryFault}
-use Rattle.flash_entry.specs.Readings.{Left, Outcome, Reading, and_then, ◌>>=◌, give, value_or, next_word}
+use Rattle.flash_entry.specs.Readings.{Left, Reading, and_then, give, value_or, next_word}
 use Rattle.flash_names.specs.Words.{words}
 use Rattle.flash_entry.proofs.GeometryLineWords.{IsOneWord, words-one, words-append}
 use Rattle.flash_entry.proofs.Sound.{spaced}

@@ -1,5 +1,5 @@
 -- An entry is read back.
-use Rattle.std.proofs.Common.{◌≡◌, ℕ, ◌+◌, List, [], ◌∷◌, ◌++◌, length, Option, None, Some, Result, Ok, Err, codes, refl, sym, ◌∙◌, ap, append_assoc, append-nil}
+use Rattle.std.proofs.Common.{◌≡◌, ℕ, ◌+◌, List, [], ◌∷◌, ◌++◌, length, None, Some, Ok, codes, refl, sym, ◌∙◌, ap, append_assoc, append-nil}
 use Rattle.std.proofs.lemmas.List.{append_cancel_right}
 use Rattle.flash_names.specs.Words.{words}
 use Rattle.flash_entry.specs.declared.entry.Residence.{Residence}
@@ -14,9 +14,9 @@ use Rattle.flash_entry.specs.declared.kinds.StepKind.TheVariants as steps
 use Rattle.flash_entry.specs.declared.kinds.LookupKind.TheVariants as lookups
 use Rattle.flash_entry.specs.declared.kinds.ItemKind.TheVariants as items
 use Rattle.flash_entry.specs.declared.kinds.PageKind.TheVariants as pages
-use Rattle.flash_entry.specs.Text.{word, number, line_end}
-use Rattle.flash_entry.specs.EntryText.{residence_text, close_text, kind_word, entry_rest, entry_line}
-use Rattle.flash_entry.specs.Readings.{and_then, next_word, end_of_line}
+use Rattle.flash_entry.specs.Text.{number, line_end}
+use Rattle.flash_entry.specs.EntryText.{residence_text, close_text, kind_word, entry_rest}
+use Rattle.flash_entry.specs.Readings.{next_word, end_of_line}
 use Rattle.flash_entry.specs.FixedWords as fixed
 use Rattle.flash_entry.specs.FieldReading as fields
 use Rattle.flash_entry.specs.EntryLaws.{EachEntryIsReadBack}

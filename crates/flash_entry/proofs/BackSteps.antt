@@ -1,5 +1,5 @@
 -- A command's step and its answer are read back.
-use Rattle.std.proofs.Common.{◌≡◌, ℕ, ℤ, Bool, true, false, List, [], ◌∷◌, ◌++◌, Option, None, Some, IfSome, codes, refl}
+use Rattle.std.proofs.Common.{ℕ, ℤ, List, Option, None, Some, IfSome, codes, refl}
 use Rattle.flash_entry.specs.declared.ask.Put.{Put}
 use Rattle.flash_entry.specs.declared.ask.Create.{Create}
 use Rattle.flash_entry.specs.declared.ask.Arith.{Arith}

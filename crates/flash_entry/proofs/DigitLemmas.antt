@@ -1,5 +1,5 @@
 -- Hexadecimal digits, as they are printed and as they are read.
-use Rattle.std.proofs.Common.{◌≡◌, ℕ, zero, suc, ◌+◌, ◌-◌, ◌*◌, ◌/◌, ◌%◌, ◌<◌, ◌≤◌, Bool, true, false, ◌&&◌, ◌||◌, ◌==◌, not, nat_lt, nat_le, List, [], ◌∷◌, length, get_or, Option, None, Some, Result, Ok, Err, if◌then◌else◌, codes, refl, sym, ◌∙◌, ap, subst, ◌⊎◌, inl, inr, arith}
+use Rattle.std.proofs.Common.{◌≡◌, ℕ, suc, ◌+◌, ◌-◌, ◌*◌, ◌/◌, ◌%◌, ◌<◌, ◌≤◌, Bool, true, false, ◌&&◌, ◌||◌, nat_lt, nat_le, List, [], ◌∷◌, length, get_or, Option, None, Some, Result, Ok, Err, if◌then◌else◌, codes, refl, sym, ◌∙◌, ap, subst, ◌⊎◌, inl, inr, arith}
 use Rattle.std.proofs.lemmas.Bool.Decides.{nat_tests}
 use Rattle.std.proofs.lemmas.List.Sums.{AllPass-from_list_all}
 use Rattle.std.specs.Option.{option_and_then}
@@ -9,7 +9,6 @@ use Rattle.std.specs.Str.{bytes_eq}
 use Rattle.hex.specs.Hex.{decode_of, decode_pairs, encode_lower, encode_with, lower_digits, hex_digit_value, value_at, pair_value, digit_or_error, IsBytes, ◌>>=◌}
 use Rattle.hex.specs.declared.error.FromHexError.{FromHexError}
 use Rattle.hex.proofs.HexLemmas.{decode_of-ok, decode_of-even, decode_of-encode_lower, IsDigits-lower_digits, length-encode_with}
-use Rattle.flash_names.specs.Numbers.{is_digit}
 use Rattle.flash_entry.specs.Text.{hexadecimal}
 use Rattle.flash_entry.specs.IsEntry.{IsKey}
 use Rattle.flash_entry.specs.WordValues.{if_key, is_lower_digit, bytes_of_digits, key_of_digits, value_of_digits}
@@ -154,8 +153,7 @@ key_at w key (Some bytes) read is =
     let test = by_both (nat_le (length bytes) 250) (Some bytes) key is in
     let same : bytes ≡ key = cc (test.1) in
     let spelled = bytes-spelled w key (read ∙ ap Some same) in
-    let short : length bytes ≤ 250 = grind (arith, nat_tests, test.0) in
-    (
+    let short : length bytes ≤ 250 = grind (arith, nat_tests, test.0) in (
       hexadecimal-some key spelled.some ∙ ap (λ (l : List ℕ). 32 ∷ l) spelled.text,
       record { bytes = spelled.are_bytes; some = let s = spelled.some in omega arith; fits = let n = ap length same in omega arith },
     )

@@ -1,10 +1,10 @@
 -- What a reading has is spelled by the words that it took.
-use Rattle.std.proofs.Common.{◌≡◌, ℕ, ◌+◌, ◌==◌, Bool, true, false, List, [], ◌∷◌, ◌++◌, Option, None, Some, Result, Ok, Err, if◌then◌else◌, refl, sym, ◌∙◌, ap, subst, append_assoc, arith}
+use Rattle.std.proofs.Common.{◌≡◌, ℕ, ◌+◌, ◌==◌, Bool, true, false, List, [], ◌∷◌, ◌++◌, Option, None, Some, Ok, Err, if◌then◌else◌, refl, sym, ◌∙◌, ap, subst, append_assoc, arith}
 use Rattle.std.proofs.lemmas.Bool.Decides.{nat_tests}
 use Rattle.std.specs.Str.{bytes_eq}
 use Rattle.flash_names.specs.Words.{words, in_first}
 use Rattle.flash_entry.specs.declared.entry_fault.EntryFault.{EntryFault}
-use Rattle.flash_entry.specs.Readings.{Left, Outcome, Reading, and_then, ◌>>=◌, give, value_or, next_word, first_word}
+use Rattle.flash_entry.specs.Readings.{Left, Outcome, Reading, and_then, ◌>>=◌, value_or, next_word, first_word}
 use Rattle.flash_entry.proofs.FixedLemmas.{same_bytes}
 
 -- words, each with the space before it

@@ -6,13 +6,9 @@ use Rattle.flash_entry.specs.declared.entry_fault.EntryFault.TheVariants.{BadWor
 use Rattle.flash_entry.specs.declared.entry.Entry.{Entry}
 use Rattle.flash_entry.specs.declared.kinds.Kind.{Kind}
 use Rattle.flash_entry.specs.declared.kinds.Kind.TheVariants as kinds
-use Rattle.flash_entry.specs.declared.kinds.StepKind.{StepKind}
 use Rattle.flash_entry.specs.declared.kinds.StepKind.TheVariants as steps
-use Rattle.flash_entry.specs.declared.kinds.LookupKind.{LookupKind}
 use Rattle.flash_entry.specs.declared.kinds.LookupKind.TheVariants as lookups
-use Rattle.flash_entry.specs.declared.kinds.ItemKind.{ItemKind}
 use Rattle.flash_entry.specs.declared.kinds.ItemKind.TheVariants as items
-use Rattle.flash_entry.specs.declared.kinds.PageKind.{PageKind}
 use Rattle.flash_entry.specs.declared.kinds.PageKind.TheVariants as pages
 use Rattle.flash_entry.specs.Text.{word, number, line_end}
 use Rattle.flash_entry.specs.EntryText.{residence_text, close_text, kind_word, entry_rest, entry_line}

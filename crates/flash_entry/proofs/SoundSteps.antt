@@ -1,9 +1,7 @@
 -- A command's step and its answer are spelled by their words.
-use Rattle.std.proofs.Common.{◌≡◌, ℕ, ℤ, Bool, true, false, List, [], ◌∷◌, ◌++◌, Option, None, Some, IfSome, codes, refl, sym}
-use Rattle.std.specs.Str.{bytes_eq}
+use Rattle.std.proofs.Common.{ℕ, ℤ, Bool, List, Option, None, Some, IfSome, codes, sym}
 use Rattle.flash_entry.specs.declared.entry_fault.EntryFault.TheVariants.{BadWord}
 use Rattle.flash_entry.specs.declared.ask.Mode.{Mode}
-use Rattle.flash_entry.specs.declared.ask.Create.{Create}
 use Rattle.flash_entry.specs.declared.kinds.Verb.{Verb}
 use Rattle.flash_entry.specs.declared.kinds.Verb.TheVariants as verbs
 use Rattle.flash_entry.specs.Text.{word, signed_if}

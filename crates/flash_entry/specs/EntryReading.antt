@@ -1,7 +1,6 @@
 -- The form of each kind of line, and the entry of a line or its first fault.
 use Rattle.std.specs.Prelude.{ℕ, ℤ, List, Bool, Option, None, Some, Result, Ok, Err, codes, if◌then◌else◌}
 use Rattle.std.specs.Str.{bytes_eq}
-use Rattle.flash_names.specs.declared.place.Label.{Label}
 use Rattle.flash_names.specs.Words.{words}
 use Rattle.flash_entry.specs.declared.entry_fault.EntryFault.{EntryFault}
 use Rattle.flash_entry.specs.declared.entry_fault.EntryFault.TheVariants.{BadWord}
@@ -34,7 +33,7 @@ use Rattle.flash_entry.specs.declared.kinds.Verb.{Verb}
 use Rattle.flash_entry.specs.declared.kinds.Verb.TheVariants as verbs
 use Rattle.flash_entry.specs.FixedWords as fixed
 use Rattle.flash_entry.specs.FieldReading as fields
-use Rattle.flash_entry.specs.Readings.{Left, Outcome, Reading, ◌>>=◌, give, value_or, next_word, end_of_line}
+use Rattle.flash_entry.specs.Readings.{Outcome, Reading, ◌>>=◌, give, value_or, next_word, end_of_line}
 
 -- `stored` and the item's CAS number, or the refusal
 unfoldable pub stored_of : List ℕ → Reading Stored

@@ -8,7 +8,6 @@ use Rattle.flash_names.specs.declared.place.Id.{Id}
 use Rattle.flash_entry.specs.declared.ask.Put.{Put}
 use Rattle.flash_entry.specs.declared.ask.Create.{Create}
 use Rattle.flash_entry.specs.declared.ask.Arith.{Arith}
-use Rattle.flash_entry.specs.declared.ask.Look.{Look}
 use Rattle.flash_entry.specs.declared.answer.Stored.{Stored}
 use Rattle.flash_entry.specs.declared.answer.Stored.TheVariants as stores
 use Rattle.flash_entry.specs.declared.answer.Summed.{Summed}
