@@ -29,7 +29,7 @@ use Rattle.flash_entry.proofs.BackFields.{number-back, narrow-back, signed_if-ba
 use Rattle.flash_entry.proofs.BackSteps.{step-back}
 
 residence-back : (at : Residence) → IsResidence at → ReadsBack residence (residence_text at) at
-unfolding residence residence_of residence_at
+unfolding residence residence_of
 residence-back residences.Nothing is = in_order (also _ (number_or_none-back None tt) nothing)
 residence-back (residences.Here cas) is =
     in_order (also _ (number_or_none-back (Some cas) is) (also _ (narrow_or_here-back None tt) nothing))

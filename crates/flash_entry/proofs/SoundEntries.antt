@@ -23,7 +23,6 @@ use Rattle.flash_entry.proofs.SoundSteps.{step-sound}
 
 residence_at-sound : (cas : ℕ) (page : Option ℕ) (bytes : List ℕ) (left : Left) → Begin bytes (number cas ++ narrow_or_here_text page) left → IsNumber cas → IfSome page IsNarrow
     → Sound residence_text IsResidence bytes (residence_at cas page left)
-unfolding residence_at
 residence_at-sound cas None bytes left at is_cas is_page = given at is_cas
 residence_at-sound cas (Some page) bytes left at is_cas is_page =
     goes_on number-sound at (λ version left at is_version.

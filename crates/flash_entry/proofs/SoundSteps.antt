@@ -8,7 +8,7 @@ use Rattle.flash_entry.specs.Text.{word, signed_if}
 use Rattle.flash_entry.specs.EntryText.{mode_word, direction_word, stored_text, summed_text, sum_text, create_text, done_text}
 use Rattle.flash_entry.specs.FixedWords as fixed
 use Rattle.flash_entry.specs.Readings.{Left}
-use Rattle.flash_entry.specs.EntryReading.{stored, stored_of, summed, sum, sum_of, create_of, create_if, store, delete, arith, touch, flush, stats, step_of, step}
+use Rattle.flash_entry.specs.EntryReading.{stored, stored_of, summed, sum, sum_of, create_of, create_if, store, delete, arithmetic, touch, flush, stats, step_of, step}
 use Rattle.flash_entry.specs.IsEntry.{IsSigned, IsCreate, IsStored, IsSummed, IsSum, IsDone}
 use Rattle.flash_entry.proofs.FixedLemmas.{verb_text, refusal-spelled, sum_refusal-spelled}
 use Rattle.flash_entry.proofs.Sound.{Begin, Sound, IsSound, goes_on, given, at_start, begin_as, sound_or, sound_if, next_word-sound}
@@ -90,9 +90,9 @@ delete-sound bytes left at =
     goes_on gone-sound at (λ answer left at _.
     given at (is_key, is_compare)))))
 
-arith-sound : (down : Bool) (bytes : List ℕ) (left : Left) → Begin bytes (word (direction_word down)) left → Sound done_text IsDone bytes (arith down left)
-unfolding arith
-arith-sound down bytes left at =
+arithmetic-sound : (down : Bool) (bytes : List ℕ) (left : Left) → Begin bytes (word (direction_word down)) left → Sound done_text IsDone bytes (arithmetic down left)
+unfolding arithmetic
+arithmetic-sound down bytes left at =
     goes_on key-sound at (λ key left at is_key.
     goes_on number-sound at (λ delta left at is_delta.
     goes_on number_if-sound at (λ compare left at is_compare.
@@ -134,7 +134,7 @@ step_of-sound : (verb : Verb) (bytes : List ℕ) (left : Left) → Begin bytes (
 unfolding step_of
 step_of-sound (verbs.Store mode) bytes left at = store-sound mode bytes left at
 step_of-sound verbs.Delete bytes left at = delete-sound bytes left at
-step_of-sound (verbs.Sum down) bytes left at = arith-sound down bytes left at
+step_of-sound (verbs.Sum down) bytes left at = arithmetic-sound down bytes left at
 step_of-sound verbs.Touch bytes left at = touch-sound bytes left at
 step_of-sound verbs.Flush bytes left at = flush-sound bytes left at
 step_of-sound verbs.Stats bytes left at = stats-sound bytes left at

@@ -108,8 +108,8 @@ delete = do
   give (deeds.Delete key compare answer)
 
 -- <key> <delta> <compare> <renew> <exptime> <start> = <answer>
-unfoldable pub arith : Bool → Reading Done
-arith down = do
+unfoldable pub arithmetic : Bool → Reading Done
+arithmetic down = do
   key ← fields.key
   delta ← fields.number
   compare ← fields.number_if
@@ -151,7 +151,7 @@ stats = do
 unfoldable pub step_of : Verb → Reading Done
 step_of (verbs.Store mode) = store mode
 step_of verbs.Delete = delete
-step_of (verbs.Sum down) = arith down
+step_of (verbs.Sum down) = arithmetic down
 step_of verbs.Touch = touch
 step_of verbs.Flush = flush
 step_of verbs.Stats = stats
@@ -163,7 +163,7 @@ step = do
   step_of verb
 
 -- `none`, <CAS number> `here`, or <CAS number> <page> <version>
-unfoldable pub residence_at : ℕ → Option ℕ → Reading Residence
+abbrev pub residence_at : ℕ → Option ℕ → Reading Residence
 residence_at cas None = give (residences.Here cas)
 residence_at cas (Some page) = do
   version ← fields.number
