@@ -120,13 +120,15 @@ kind_word-of (entries.Ended _ _) = refl
 kind_word-of (entries.Freed _) = refl
 
 whole-back : (entry : Entry) (w : List ℕ) (ws : List (List ℕ)) (place : ℕ) → fixed.kind w ≡ Some (kind_of entry)
-    → of_kind (kind_of entry) (left_at (ws ++ []) 1) ≡ Ok (entry, left_at [] place) → value_of (whole (left_at (w ∷ ws) 0)) ≡ Ok entry
+    → of_kind (kind_of entry) (left_at (ws ++ []) 1) ≡ Ok (entry, left_at [] place)
+    → value_of (whole (left_at (w ∷ ws) 0)) ≡ Ok entry
 unfolding whole fields.kind next_word end_of_line
 whole-back entry w ws place is_kind is_entry =
     let read : of_kind (kind_of entry) (left_at ws 1) ≡ Ok (entry, left_at [] place) = ap (λ (l : List (List ℕ)). of_kind (kind_of entry) (left_at l 1)) (sym (append-nil ws)) ∙ is_entry in
     rw (is_kind, read) refl
 
-words-entry : (entry : Entry) (ws : List (List ℕ)) → entry_rest entry ≡ spaced ws → AreWords ws → words (kind_word entry ++ entry_rest entry) ≡ kind_text (kind_of entry) ∷ ws
+words-entry : (entry : Entry) (ws : List (List ℕ)) → entry_rest entry ≡ spaced ws → AreWords ws
+    → words (kind_word entry ++ entry_rest entry) ≡ kind_text (kind_of entry) ∷ ws
 words-entry entry ws spelled one =
     ap (λ (l : List ℕ). words (l ++ entry_rest entry)) (kind_word-of entry) ∙ ap (λ (l : List ℕ). words (kind_text (kind_of entry) ++ l)) spelled
     ∙ words-spaced (kind_text (kind_of entry)) ws (kind-word (kind_of entry)) one

@@ -30,13 +30,15 @@ use Rattle.flash_entry.proofs.FixedLemmas.{same_bytes, no_space, kind_text, verb
 use Rattle.flash_entry.proofs.SoundFields.{number_or_none_text, narrow_or_here_text}
 use Rattle.flash_entry.proofs.Back.{ReadsBack, also, nothing, in_order, one_back}
 
-or_at : {A : Type 0} (other w : List ℕ) (of : List ℕ → Option A) (x : A) (test : Bool) → bytes_eq w other ≡ test → of other ≡ None → of w ≡ Some x
+or_at : {A : Type 0} (other w : List ℕ) (of : List ℕ → Option A) (x : A) (test : Bool) → bytes_eq w other ≡ test
+    → of other ≡ None → of w ≡ Some x
     → (if test then Some None else option_map (λ v. Some v) (of w)) ≡ Some (Some x)
 or_at other w of x true at none is = absurd (cc (ap of (same_bytes w other at), none, is))
 or_at other w of x false at none is = ap (option_map (λ v. Some v)) is
 
 -- a word that is not the one for nothing
-or-back : {A : Type 0} (other w : List ℕ) (of : List ℕ → Option A) (x : A) → of other ≡ None → of w ≡ Some x → or_word other of w ≡ Some (Some x)
+or-back : {A : Type 0} (other w : List ℕ) (of : List ℕ → Option A) (x : A) → of other ≡ None → of w ≡ Some x
+    → or_word other of w ≡ Some (Some x)
 or-back other w of x none is = or_at other w of x (bytes_eq w other) refl none is
 
 pub number-back : (n : ℕ) → IsNumber n → ReadsBack fields.number (number n) n

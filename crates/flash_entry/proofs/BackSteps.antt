@@ -66,7 +66,8 @@ create-back None is = in_order (also _ (signed_if-back None tt) (also _ dash-bac
 create-back (Some create) is =
     in_order (also _ (signed_if-back (Some create.exptime) is.exptime) (also _ (number-back create.start is.start) nothing))
 
-store-back : (put : Put) (answer : Stored) → IsPut put → IsStored answer → ReadsBack step (done_text (deeds.Store put answer)) (deeds.Store put answer)
+store-back : (put : Put) (answer : Stored) → IsPut put → IsStored answer
+    → ReadsBack step (done_text (deeds.Store put answer)) (deeds.Store put answer)
 unfolding step step_of store
 store-back put answer is is_answer =
     in_order
@@ -90,7 +91,8 @@ delete-back key compare answer is_key is_compare =
     (also _ equality-back
     (also _ (gone-back answer) nothing)))))
 
-arithmetic-back : (ask : Arith) (answer : Sum) → IsArith ask → IsSum answer → ReadsBack step (done_text (deeds.Sum ask answer)) (deeds.Sum ask answer)
+arithmetic-back : (ask : Arith) (answer : Sum) → IsArith ask → IsSum answer
+    → ReadsBack step (done_text (deeds.Sum ask answer)) (deeds.Sum ask answer)
 unfolding step step_of arithmetic
 arithmetic-back ask answer is is_answer =
     in_order

@@ -19,8 +19,11 @@ use Rattle.flash_entry.proofs.Sound.{IsSound, one_word, goes_on, given, at_start
 spaced_word : {w c : List ℕ} → c ≡ w → 32 ∷ c ≡ 32 ∷ w
 spaced_word same = ap (λ (l : List ℕ). 32 ∷ l) same
 
-or_at : {A : Type 0} (text : Option A → List ℕ) (IsIn : A → Type 0) (other w : List ℕ) (test : Bool) (value : Option A) (x : Option A) → bytes_eq w other ≡ test → text None ≡ 32 ∷ other
-    → ((v : A) → value ≡ Some v → (text (Some v) ≡ 32 ∷ w) × IsIn v) → (if test then Some None else option_map (λ v. Some v) value) ≡ Some x → (text x ≡ 32 ∷ w) × IfSome x IsIn
+or_at : {A : Type 0} (text : Option A → List ℕ) (IsIn : A → Type 0) (other w : List ℕ) (test : Bool)
+    (value : Option A) (x : Option A)
+    → bytes_eq w other ≡ test → text None ≡ 32 ∷ other
+    → ((v : A) → value ≡ Some v → (text (Some v) ≡ 32 ∷ w) × IsIn v)
+    → (if test then Some None else option_map (λ v. Some v) value) ≡ Some x → (text x ≡ 32 ∷ w) × IfSome x IsIn
 or_at text IsIn other w true value x at none each is =
     let same : None ≡ x = cc is in
     subst (λ o. (text o ≡ 32 ∷ w) × IfSome o IsIn) same (none ∙ spaced_word (sym (same_bytes w other at)), tt)
@@ -30,7 +33,8 @@ or_at text IsIn other w false (Some v) x at none each is =
     subst (λ o. (text o ≡ 32 ∷ w) × IfSome o IsIn) same (each v refl)
 
 -- a word of its own for nothing
-or-spelled : {A : Type 0} (text : Option A → List ℕ) (IsIn : A → Type 0) (other : List ℕ) (of : List ℕ → Option A) → text None ≡ 32 ∷ other → ((w : List ℕ) (v : A) → of w ≡ Some v → (text (Some v) ≡ 32 ∷ w) × IsIn v)
+or-spelled : {A : Type 0} (text : Option A → List ℕ) (IsIn : A → Type 0) (other : List ℕ) (of : List ℕ → Option A)
+    → text None ≡ 32 ∷ other → ((w : List ℕ) (v : A) → of w ≡ Some v → (text (Some v) ≡ 32 ∷ w) × IsIn v)
     → (w : List ℕ) (x : Option A) → or_word other of w ≡ Some x → (text x ≡ 32 ∷ w) × IfSome x IsIn
 or-spelled text IsIn other of none each w x is = or_at text IsIn other w (bytes_eq w other) (of w) x refl none (each w) is
 
