@@ -21,7 +21,8 @@ AreWords-append (w ∷ ws) vs one ones = (one.0, AreWords-append ws vs one.1 one
 
 spaced-append : (ws vs : List (List ℕ)) → spaced (ws ++ vs) ≡ spaced ws ++ spaced vs
 spaced-append [] vs = refl
-spaced-append (w ∷ ws) vs = ap (λ (l : List ℕ). 32 ∷ (w ++ l)) (spaced-append ws vs) ∙ ap (λ (l : List ℕ). 32 ∷ l) (sym (append_assoc w (spaced ws) (spaced vs)))
+spaced-append (w ∷ ws) vs =
+    ap (λ (l : List ℕ). 32 ∷ (w ++ l)) (spaced-append ws vs) ∙ ap (λ (l : List ℕ). 32 ∷ l) (sym (append_assoc w (spaced ws) (spaced vs)))
 
 -- the text's words are read as the value
 pub record ReadsBack {A : Type 0} (reading : Reading A) (text : List ℕ) (value : A) : Type 0 where

@@ -20,7 +20,7 @@ use Rattle.flash_entry.specs.Readings.{next_word, end_of_line}
 use Rattle.flash_entry.specs.FixedWords as fixed
 use Rattle.flash_entry.specs.FieldReading as fields
 use Rattle.flash_entry.specs.EntryLaws.{EachEntryIsReadBack}
-use Rattle.flash_entry.specs.EntryReading.{residence_at, residence_of, residence, hit, lost, close_of, close, clock, did, looked, buffered, read_began, read_ended, closed, moved, recached, dropped, write_began, write_ended, opened, ended, freed, of_step, of_lookup, of_item, of_page, of_kind, whole, value_of, reading}
+use Rattle.flash_entry.specs.EntryReading.{residence_of, residence, hit, lost, close_of, close, clock, did, looked, buffered, read_began, read_ended, closed, moved, recached, dropped, write_began, write_ended, opened, ended, freed, of_step, of_lookup, of_item, of_page, of_kind, whole, value_of, reading}
 use Rattle.flash_entry.specs.IsEntry.{IsResidence, IsClose, IsEntry}
 use Rattle.flash_entry.proofs.FixedLemmas.{no_space, kind_text, kind-word, kind-back as kind_word-back}
 use Rattle.flash_entry.proofs.Sound.{spaced}
@@ -138,7 +138,8 @@ unfolding reading
 read_text entry is =
     let back = entry-back entry is in
     ap (λ (l : List (List ℕ)). value_of (whole (left_at l 0))) (words-entry entry back.words back.spelled back.one)
-    ∙ whole-back entry (kind_text (kind_of entry)) back.words (1 + length back.words) (kind_word-back (kind_of entry)) (back.read [] 1)
+    ∙ whole-back entry (kind_text (kind_of entry)) back.words (1 + length back.words)
+    (kind_word-back (kind_of entry)) (back.read [] 1)
 
 pub entry_read_back : EachEntryIsReadBack
 entry_read_back entry line is same =

@@ -41,8 +41,10 @@ by_ranges : (c value : ℕ) (upper letter digit : Bool) → (nat_le 65 c && nat_
     → (digit || letter) ≡ true
     → (if upper then Some (c - 55) else if letter then Some (c - 87) else if digit then Some (c - 48) else None) ≡ Some value
     → ((48 ≤ c) × (c ≤ 57) × (value + 48 ≡ c)) ⊎ ((97 ≤ c) × (c ≤ 102) × (value + 87 ≡ c))
-by_ranges c value true true digit at_upper at_letter at_digit lower is = absurd (grind (arith, nat_tests, at_upper, at_letter))
-by_ranges c value true false true at_upper at_letter at_digit lower is = absurd (grind (arith, nat_tests, at_upper, at_digit))
+by_ranges c value true true digit at_upper at_letter at_digit lower is =
+    absurd (grind (arith, nat_tests, at_upper, at_letter))
+by_ranges c value true false true at_upper at_letter at_digit lower is =
+    absurd (grind (arith, nat_tests, at_upper, at_digit))
 by_ranges c value true false false at_upper at_letter at_digit lower is = absurd (cc lower)
 by_ranges c value false true digit at_upper at_letter at_digit lower is =
     let same : c - 87 ≡ value = cc is in
@@ -60,7 +62,8 @@ by_ranges c value false false false at_upper at_letter at_digit lower is = absur
 digit_ranges : (c value : ℕ) → is_lower_digit c ≡ true → hex_digit_value c ≡ Some value
     → ((48 ≤ c) × (c ≤ 57) × (value + 48 ≡ c)) ⊎ ((97 ≤ c) × (c ≤ 102) × (value + 87 ≡ c))
 digit_ranges c value lower is =
-    by_ranges c value (nat_le 65 c && nat_le c 70) (nat_le 97 c && nat_le c 102) (nat_le 48 c && nat_le c 57) refl refl refl lower is
+    by_ranges c value (nat_le 65 c && nat_le c 70) (nat_le 97 c && nat_le c 102)
+    (nat_le 48 c && nat_le c 57) refl refl refl lower is
 
 same_digit : (c d value : ℕ) → is_lower_digit c ≡ true → is_lower_digit d ≡ true → hex_digit_value c ≡ Some value
     → hex_digit_value d ≡ Some value → c ≡ d
@@ -227,7 +230,8 @@ dash-digits = refl
 value_or_dash : (bytes : List ℕ) (dash : Bool) → bytes_eq (encode_lower bytes) (codes "-") ≡ dash → IsBytes bytes
     → 0 < length bytes
     → (if dash then Some [] else bytes_of_digits (encode_lower bytes)) ≡ Some bytes
-value_or_dash bytes true at are_bytes some = absurd (cc (bytes-back bytes are_bytes some, ap bytes_of_digits (same_bytes (encode_lower bytes) (codes "-") at), dash-digits))
+value_or_dash bytes true at are_bytes some =
+    absurd (cc (bytes-back bytes are_bytes some, ap bytes_of_digits (same_bytes (encode_lower bytes) (codes "-") at), dash-digits))
 value_or_dash bytes false at are_bytes some = bytes-back bytes are_bytes some
 
 pub value-back : (bytes : List ℕ) → IsBytes bytes → 0 < length bytes → value_of_digits (encode_lower bytes) ≡ Some bytes

@@ -62,7 +62,8 @@ no_space_at b false rest at is = (at, is)
 
 pub no_space : (w : List ℕ) → list_all (λ b. not (b == 32)) w ≡ true → IsOneWord w
 no_space [] is = tt
-no_space (b ∷ bytes) is = let at = no_space_at b (b == 32) (list_all (λ c. not (c == 32)) bytes) refl is in (at.0, no_space bytes at.1)
+no_space (b ∷ bytes) is =
+    let at = no_space_at b (b == 32) (list_all (λ c. not (c == 32)) bytes) refl is in (at.0, no_space bytes at.1)
 
 -- the first words
 abbrev pub step_text : StepKind → List ℕ
@@ -227,7 +228,8 @@ other_verb-spelled w x is =
 
 pub verb-spelled : (w : List ℕ) (x : Verb) → verb w ≡ Some x → verb_text x ≡ w
 unfolding verb
-verb-spelled w x is = either (λ v. verb_text v ≡ w) (λ m. verbs.Store m) (mode w) (other_verb w) x (mode-spelled w) (other_verb-spelled w x) is
+verb-spelled w x is =
+    either (λ v. verb_text v ≡ w) (λ m. verbs.Store m) (mode w) (other_verb w) x (mode-spelled w) (other_verb-spelled w x) is
 
 pub verb-back : (x : Verb) → verb (verb_text x) ≡ Some x
 unfolding verb mode other_verb

@@ -66,7 +66,8 @@ plain-spelled w n is =
 
 pub narrow-spelled : (w : List ℕ) (n : ℕ) → narrow_number w ≡ Some n → (decimal n ≡ w) × (n < 2 ^ 32)
 unfolding narrow_number
-narrow-spelled w n is = let below = below-if_below (2 ^ 32) (plain_number w) n is in ((plain-spelled w n below.0).0, below.1)
+narrow-spelled w n is =
+    let below = below-if_below (2 ^ 32) (plain_number w) n is in ((plain-spelled w n below.0).0, below.1)
 
 below_zero-spelled : (w : List ℕ) (distance : Option ℕ) (z : ℤ) → plain_number w ≡ distance
     → option_and_then below_zero distance ≡ Some z
@@ -139,11 +140,13 @@ no_digits n is = cc is
 signed_plain : (w : List ℕ) (n : ℕ) → plain_number w ≡ Some n → n < 2 ^ 63 → signed_number w ≡ Some (pos n)
 unfolding signed_number
 signed_plain [] n is small = absurd (no_digits n is)
-signed_plain (b ∷ bytes) n is small = rw (no_sign b bytes n is) (ap (option_map pos) (ap (if_below (2 ^ 63)) is ∙ if_below-small (2 ^ 63) n small))
+signed_plain (b ∷ bytes) n is small =
+    rw (no_sign b bytes n is) (ap (option_map pos) (ap (if_below (2 ^ 63)) is ∙ if_below-small (2 ^ 63) n small))
 
 pub signed-back : (z : ℤ) → FitsSigned w64 z → signed_number (signed_decimal z) ≡ Some z
 unfolding signed_number
-signed-back (pos n) fits = let small : n < 2 ^ 63 = fits.sfits in signed_plain (decimal n) n (plain-back n (omega arith)) small
+signed-back (pos n) fits =
+    let small : n < 2 ^ 63 = fits.sfits in signed_plain (decimal n) n (plain-back n (omega arith)) small
 signed-back (negsuc n) fits =
     let small : n < 2 ^ 63 = fits.sfits in
     ap (option_and_then below_zero) (plain-back (suc n) (omega arith)) ∙ (rw (lt-ltb n (2 ^ 63) small) refl)

@@ -27,7 +27,8 @@ residence_at-sound : (cas : ℕ) (page : Option ℕ) (bytes : List ℕ) (left : 
 residence_at-sound cas None bytes left at is_cas is_page = given at is_cas
 residence_at-sound cas (Some page) bytes left at is_cas is_page =
     goes_on number-sound at (λ version left at is_version.
-    given (begin_as (append_assoc (number cas) (number page) (number version)) at) (is_cas, record { page = is_page; version = is_version }))
+    given (begin_as (append_assoc (number cas) (number page) (number version)) at)
+    (is_cas, record { page = is_page; version = is_version }))
 
 residence_of-sound : (cas : Option ℕ) (bytes : List ℕ) (left : Left) → Begin bytes (number_or_none_text cas) left
     → IfSome cas IsNumber

@@ -5,7 +5,9 @@ use Rattle.flash_names.specs.Words.{words}
 use Rattle.flash_entry.specs.declared.entry_fault.EntryFault.{EntryFault}
 use Rattle.flash_entry.specs.declared.entry_fault.EntryFault.TheVariants.{BadWord}
 use Rattle.flash_entry.specs.declared.ask.Mode.{Mode}
+use Rattle.flash_entry.specs.declared.ask.Put.{Put}
 use Rattle.flash_entry.specs.declared.ask.Create.{Create}
+use Rattle.flash_entry.specs.declared.ask.Arith.{Arith}
 use Rattle.flash_entry.specs.declared.answer.Stored.{Stored}
 use Rattle.flash_entry.specs.declared.answer.Stored.TheVariants as stores
 use Rattle.flash_entry.specs.declared.answer.Summed.{Summed}
@@ -96,7 +98,8 @@ store mode = do
   value ← fields.value
   _ ← fields.equality
   answer ← stored
-  give (deeds.Store (record { key = key; mode = mode; flags = flags; exptime = exptime; compare = compare; value = value }) answer)
+  let put : Put = record { key = key; mode = mode; flags = flags; exptime = exptime; compare = compare; value = value }
+  give (deeds.Store put answer)
 
 -- <key> <compare> = <answer>
 unfoldable pub delete : Reading Done
@@ -117,7 +120,8 @@ arithmetic down = do
   create ← create_if
   _ ← fields.equality
   answer ← sum
-  give (deeds.Sum (record { key = key; down = down; delta = delta; compare = compare; renew = renew; create = create }) answer)
+  let ask : Arith = record { key = key; down = down; delta = delta; compare = compare; renew = renew; create = create }
+  give (deeds.Sum ask answer)
 
 -- <key> <exptime> = <answer>
 unfoldable pub touch : Reading Done

@@ -113,7 +113,8 @@ IsClose (closes.Lost cause) = Unit {0}
 abbrev pub IsEntry : Entry → Type 0
 IsEntry (entries.Clock moment) = IsNumber moment
 IsEntry (entries.Did id done) = IsId id × IsDone done
-IsEntry (entries.Looked id key look residence) = IsId id × IsKey key × IfSome look.renew IsSigned × IsResidence residence
+IsEntry (entries.Looked id key look residence) =
+    IsId id × IsKey key × IfSome look.renew IsSigned × IsResidence residence
 IsEntry (entries.FromBuffer id place) = IsId id × IsPlace place
 IsEntry (entries.ReadBegan id place reader) = IsId id × IsPlace place × IsNarrow reader
 IsEntry (entries.ReadEnded id bytes) = IsId id × IfSome bytes IsBytes
