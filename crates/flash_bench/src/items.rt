@@ -4,6 +4,7 @@ mod keys;
 mod map;
 mod memory;
 
+use memory::resident_kilobytes;
 use std::io;
 use std::time::Instant;
 
@@ -30,17 +31,27 @@ pub fn try_out(rt: &HostRuntime) -> io::Result<()> {
     println!(rt; "items: {ours} found in the items, {theirs} in a HashMap")
 }
 
-/// Measures the memory of an item and both ways at a million keys, and the slowest insert on the way to four million.
-/// That comes first: an allocator that has freed large blocks copies others where they grow.
+/// Measures the slowest insert on the way to four million keys and the memory of an item then, and both ways at a million
+/// keys. Growing comes first: an allocator that has freed large blocks copies others where they grow, and gives memory
+/// again that was resident before.
 pub fn measure(rt: &HostRuntime) -> io::Result<()> {
-    print_slowest(rt)?;
-    print_memory(rt)?;
+    print_growth(rt)?;
     print_times(rt)
 }
 
-fn print_memory(rt: &HostRuntime) -> io::Result<()> {
-    let kilobytes = cache::kilobytes(rt, KEYS)?;
-    let bytes = kilobytes.saturating_mul(1024) / KEYS;
+fn print_growth(rt: &HostRuntime) -> io::Result<()> {
+    let before = resident_kilobytes(rt)?;
+    let (items, ours) = cache::grown(rt, MOST_KEYS)?;
+    let kilobytes = resident_kilobytes(rt)?.saturating_sub(before);
+    drop(items);
+    print_memory(rt, kilobytes)?;
+    let theirs = map::slowest_insert(rt, MOST_KEYS)?;
+    let ratio = theirs / ours.max(1);
+    println!(rt; "slowest insert: items {ours} ns, HashMap {theirs} ns, 1/{ratio}")
+}
+
+fn print_memory(rt: &HostRuntime, kilobytes: u64) -> io::Result<()> {
+    let bytes = kilobytes.saturating_mul(1024) / MOST_KEYS;
     println!(rt; "memory: {bytes} bytes an item, 16 of them its key's")
 }
 
@@ -57,13 +68,6 @@ fn print_both(rt: &HostRuntime, name: &str, ours: u64, theirs: u64) -> io::Resul
     let percent = ours.saturating_mul(100) / theirs.max(1);
     let (one, other) = (ours / KEYS, theirs / KEYS);
     println!(rt; "{name}: items {one} ns, HashMap {other} ns, {percent} %")
-}
-
-fn print_slowest(rt: &HostRuntime) -> io::Result<()> {
-    let ours = cache::slowest_insert(rt, MOST_KEYS)?;
-    let theirs = map::slowest_insert(rt, MOST_KEYS)?;
-    let ratio = theirs / ours.max(1);
-    println!(rt; "slowest insert: items {ours} ns, HashMap {theirs} ns, 1/{ratio}")
 }
 
 // The nanoseconds since the start.

@@ -4,7 +4,6 @@ ghost use Rattle.flash_items.specs.Item.{IsSmall};
 ghost use Rattle.flash_items.specs.ItemsState.{HasItem};
 
 use super::keys::{key_bytes, visited};
-use super::memory::resident_kilobytes;
 use super::{Times, nanos_since};
 use flash_items::{Body, Item, Items};
 use flash_names::{ItemId, Key, Label, Place};
@@ -29,8 +28,8 @@ pub fn times(rt: &HostRuntime, keys: u64) -> io::Result<Times> {
     })
 }
 
-/// The nanoseconds of the slowest of so many inserts.
-pub fn slowest_insert(rt: &HostRuntime, keys: u64) -> io::Result<u64> {
+/// So many items, and the nanoseconds of the slowest of their inserts.
+pub fn grown(rt: &HostRuntime, keys: u64) -> io::Result<(Items, u64)> {
     let mut items = Items::open(rt.alloc(), MEMORY)?;
     let mut slowest = 0;
     for number in 0..keys {
@@ -38,16 +37,7 @@ pub fn slowest_insert(rt: &HostRuntime, keys: u64) -> io::Result<u64> {
         store(rt.alloc(), &mut items, number)?;
         slowest = nanos_since(rt, start)?.max(slowest);
     }
-    Ok(slowest)
-}
-
-/// The resident memory that so many items take, in kilobytes.
-pub fn kilobytes(rt: &HostRuntime, keys: u64) -> io::Result<u64> {
-    let before = resident_kilobytes(rt)?;
-    let mut items = Items::open(rt.alloc(), MEMORY)?;
-    let _nanos = time_inserts(rt, &mut items, keys)?;
-    let after = resident_kilobytes(rt)?;
-    Ok(after.saturating_sub(before))
+    Ok((items, slowest))
 }
 
 fn time_inserts(rt: &HostRuntime, items: &mut Items, keys: u64) -> io::Result<u64> {
