@@ -2,6 +2,7 @@ pub mod Cache
 pub mod Codes
 pub mod Deleting
 pub mod DeviceReads
+pub mod EachFrom
 pub mod Finding
 pub mod Honest
 pub mod Item
@@ -13,9 +14,12 @@ pub mod Looking
 pub mod Lookups
 pub mod Moments
 pub mod NewSteps
+pub mod Orderly
+pub mod OrderlyLaws
 pub mod PageLabels
 pub mod Places
 pub mod ReadOff
+pub mod ReadingOffLaws
 pub mod Records
 pub mod Rising
 pub mod Rules
