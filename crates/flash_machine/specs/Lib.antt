@@ -5,6 +5,7 @@ pub mod DeviceReads
 pub mod EachFrom
 pub mod Finding
 pub mod Honest
+pub mod HonestLaws
 pub mod Item
 pub mod Laws
 pub mod Legal
