@@ -7,6 +7,7 @@ pub mod Finding
 pub mod Honest
 pub mod HonestLaws
 pub mod Item
+pub mod LabelLaws
 pub mod Laws
 pub mod Legal
 pub mod Live
