@@ -11,7 +11,8 @@ use Rattle.flash_entry.specs.declared.entry.Entry.{Entry}
 use Rattle.flash_entry.specs.declared.entry.Entry.TheVariants as entries
 use Rattle.flash_machine.specs.PageLabels.{label_step, page_label}
 use Rattle.flash_machine.specs.Orderly.{IsOrderly, OrderlyFrom, Orderly}
-use Rattle.flash_machine.specs.LabelLaws.{journal_of_two, frees}
+use Rattle.flash_machine.specs.Splits.{journal_of_two}
+use Rattle.flash_machine.specs.LabelLaws.{frees}
 use Rattle.flash_machine.proofs.Same.{number_itself, label_itself}
 use Rattle.flash_machine.proofs.Onward.{EachFrom-split}
 use Rattle.flash_machine.proofs.EntrySteps.{read_off-one}

@@ -4,6 +4,11 @@ use Rattle.std.proofs.lemmas.List.{append-nil}
 use Rattle.flash_entry.specs.declared.entry.Entry.{Entry}
 use Rattle.flash_machine.specs.EachFrom.{EachFrom}
 
+-- what each entry more keeps of a journal holds of all that go on from one of which it holds
+pub each_journal : (Holds : List Entry → Type 0) → ((h : List Entry) (e : Entry) → Holds h → Holds (h ++ e ∷ [])) → (h es : List Entry) → Holds h → Holds (h ++ es)
+each_journal Holds one h [] was = subst Holds (sym (append-nil h)) was
+each_journal Holds one h (e ∷ es) was = subst Holds (append_assoc h (e ∷ []) es) (each_journal Holds one (h ++ e ∷ []) es (one h e was))
+
 module _ (Fits : List Entry → Entry → Type 0) where
   -- entries that fit, and more after them
   pub EachFrom-append : (h xs ys : List Entry) → EachFrom Fits h xs → EachFrom Fits (h ++ xs) ys → EachFrom Fits h (xs ++ ys)

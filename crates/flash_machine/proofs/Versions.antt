@@ -10,7 +10,8 @@ use Rattle.flash_entry.specs.declared.entry.Entry.TheVariants as entries
 use Rattle.flash_machine.specs.Live.{ends, label_has_ended}
 use Rattle.flash_machine.specs.PageLabels.{label_step, page_label, version_step, last_version}
 use Rattle.flash_machine.specs.Orderly.{IsOrderly, OrderlyFrom, Orderly}
-use Rattle.flash_machine.specs.LabelLaws.{journal_of_two, AreUpToLast}
+use Rattle.flash_machine.specs.Splits.{journal_of_two}
+use Rattle.flash_machine.specs.LabelLaws.{AreUpToLast}
 use Rattle.flash_machine.proofs.Same.{equal_labels}
 use Rattle.flash_machine.proofs.Onward.{EachFrom-keeps, EachFrom-split}
 use Rattle.flash_machine.proofs.EntrySteps.{read_off-one, label_has_ended-one}

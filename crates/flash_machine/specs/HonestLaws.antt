@@ -10,6 +10,7 @@ use Rattle.flash_machine.specs.Places.{overlaps}
 use Rattle.flash_machine.specs.Written.{IsWritten}
 use Rattle.flash_machine.specs.Honest.{AgreesWith, IsHonestEntry, HonestFrom, Honest}
 use Rattle.flash_machine.specs.Orderly.{Orderly}
+use Rattle.flash_machine.specs.Splits.{journal_of_two}
 
 -- where the journal is split at a good end of a read, its bytes agree with what was known when the read began
 abbrev pub EachReadAgrees : List Entry → Type 0
@@ -43,10 +44,10 @@ abbrev pub BeginsNoWriteOver : Place → Entry → Type 0
 BeginsNoWriteOver place (entries.WriteBegan other) = overlaps other place ≡ false
 BeginsNoWriteOver place _ = Unit {0}
 
--- the journal of a read: what was before it, its begin, what came since, its good end, and what came after
+-- the journal with a read that ends well
 abbrev pub read_journal : List Entry → Id → Place → ℕ → List Entry → List ℕ → List Entry → List Entry
 read_journal before id place reader since bytes after =
-    (before ++ entries.ReadBegan id place reader ∷ since) ++ entries.ReadEnded id (Some bytes) ∷ after
+    journal_of_two before (entries.ReadBegan id place reader) since (entries.ReadEnded id (Some bytes)) after
 
 -- a read gives the bytes that were known to be at its place when it began, where no write over the place began since
 abbrev pub AReadGivesWhatWasWritten : Type 0

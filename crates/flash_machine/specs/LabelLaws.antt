@@ -9,10 +9,7 @@ use Rattle.flash_entry.specs.declared.entry.Entry.TheVariants as entries
 use Rattle.flash_machine.specs.Live.{label_has_ended}
 use Rattle.flash_machine.specs.PageLabels.{page_label, last_version}
 use Rattle.flash_machine.specs.Orderly.{Orderly}
-
--- the journal of two entries: what was before the first, what came between them, and what came after the second
-abbrev pub journal_of_two : List Entry → Entry → List Entry → Entry → List Entry → List Entry
-journal_of_two before first between second after = (before ++ first ∷ between) ++ second ∷ after
+use Rattle.flash_machine.specs.Splits.{journal_of_two}
 
 -- each label that is opened has a greater version than all labels that were opened before it
 abbrev pub VersionsRise : Type 0

@@ -13,6 +13,7 @@ pub mod Legal
 pub mod Live
 pub mod Load
 pub mod Looking
+pub mod LookupLaws
 pub mod Lookups
 pub mod Moments
 pub mod NewSteps
@@ -26,6 +27,7 @@ pub mod Records
 pub mod Rising
 pub mod Rules
 pub mod Same
+pub mod Splits
 pub mod Steps
 pub mod Storing
 pub mod Summing
