@@ -2,6 +2,7 @@
 use Rattle.std.proofs.Common.{◌≡◌, ℕ, Bool, true, false, cond, List, [], ◌∷◌, ◌++◌, length, Option, None, Some, refl, sym, ◌∙◌, ap, subst, arith, append_assoc}
 use Rattle.std.specs.Prelude.{nat_eq, is_none}
 use Rattle.std.specs.Option.{option_map}
+use Rattle.std.specs.List.{AllByRecursion}
 use Rattle.std.proofs.lemmas.Bool.{and_parts}
 use Rattle.std.proofs.lemmas.Bool.Decides.{nat_tests}
 use Rattle.flash_names.specs.declared.place.Id.{Id}
@@ -13,9 +14,13 @@ use Rattle.flash_machine.specs.PageLabels.{is_in_use}
 use Rattle.flash_machine.specs.Lookups.{same_id}
 use Rattle.flash_machine.specs.DeviceReads.{DeviceRead, with_outcome, read_step, read_of}
 use Rattle.flash_machine.specs.Rules.{is_open_read}
+use Rattle.flash_machine.specs.Written.{IsWritten}
+use Rattle.flash_machine.specs.Honest.{Honest}
+use Rattle.flash_machine.specs.HonestLaws.{BeginsNoWriteOver, read_journal}
 use Rattle.flash_machine.specs.Orderly.{IsOrderly, OrderlyFrom, Orderly}
 use Rattle.flash_machine.proofs.Same.{id_itself, equal_ids}
 use Rattle.flash_machine.proofs.EntrySteps.{read_off-one}
+use Rattle.flash_machine.proofs.HonestReads.{each_read_agrees, read_is_written}
 use Rattle.flash_machine.proofs.Onward.{EachFrom-keeps, EachFrom-split}
 
 module _ (id : Id) (place : Place) where
@@ -78,3 +83,11 @@ read_length g before since after id place reader bytes orderly =
     let h = before ++ entries.ReadBegan id place reader ∷ since in
     let parts = EachFrom-split (IsOrderly g) h (entries.ReadEnded id (Some bytes) ∷ after) orderly in
     ended_length id place bytes (read_of id h) (reads_since id place g before since reader parts.0) parts.1.0
+
+-- a read of an orderly and honest journal gives what was written
+pub read_gives_written : (g : Geometry) (before since after : List Entry) (id : Id) (place : Place) (reader : ℕ) (was bytes : List ℕ)
+    → Orderly g (read_journal before id place reader since bytes after) → Honest (read_journal before id place reader since bytes after)
+    → IsWritten before place was → AllByRecursion (BeginsNoWriteOver place) since → bytes ≡ was
+read_gives_written g before since after id place reader was bytes orderly honest is apart =
+    let agrees = each_read_agrees (read_journal before id place reader since bytes after) honest (before ++ entries.ReadBegan id place reader ∷ since) after id bytes refl in
+    read_is_written before since id place reader was bytes agrees (read_length g before since after id place reader bytes orderly) is apart

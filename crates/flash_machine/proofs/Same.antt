@@ -1,14 +1,17 @@
--- Numbers of steps, labels and answers that pass the test of being the same are equal, and each passes it with itself.
+-- Numbers of steps, labels, places and answers that pass the test of being the same are equal, and each passes it with itself.
 use Rattle.std.proofs.Common.{◌≡◌, ℕ, true, refl, ap, arith}
 use Rattle.std.specs.Prelude.{nat_eq}
+use Rattle.std.proofs.lemmas.Bool.{and_parts}
 use Rattle.std.proofs.lemmas.Bool.Decides.{nat_tests}
 use Rattle.flash_names.specs.declared.place.Id.{Id}
 use Rattle.flash_names.specs.declared.place.Label.{Label}
+use Rattle.flash_names.specs.declared.place.Place.{Place}
 use Rattle.flash_names.specs.Labels.{same_label}
 use Rattle.flash_entry.specs.declared.answer.Stored.{Stored}
 use Rattle.flash_entry.specs.declared.answer.Stored.TheVariants as stored
 use Rattle.flash_entry.specs.declared.entry.Residence.{Residence}
 use Rattle.flash_entry.specs.declared.entry.Residence.TheVariants as residence
+use Rattle.flash_machine.specs.Places.{same_place}
 use Rattle.flash_machine.specs.Lookups.{same_id}
 use Rattle.flash_machine.specs.Same.{same_stored, same_residence}
 
@@ -31,6 +34,15 @@ equal_labels one other same =
 
 pub id_itself : (id : Id) → same_id id id ≡ true
 id_itself id = grind (arith, nat_tests)
+
+same_ranges : (label other : Label) (offset first length last : ℕ) → label ≡ other → offset ≡ first → length ≡ last
+    → ◌≡◌ {A = Place} (record { label = label; offset = offset; length = length }) (record { label = other; offset = first; length = last })
+same_ranges label other offset first length last one two three = cc
+
+pub equal_places : (one other : Place) → same_place one other ≡ true → one ≡ other
+equal_places one other same =
+    let label : same_label one.label other.label ≡ true = (and_parts _ _ (and_parts _ _ same).0).0 in
+    same_ranges one.label other.label one.offset other.offset one.length other.length (equal_labels one.label other.label label) (grind (arith, nat_tests)) (grind (arith, nat_tests))
 
 same_ids : (pass seq other last : ℕ) → pass ≡ other → seq ≡ last
     → ◌≡◌ {A = Id} (record { pass = pass; seq = seq }) (record { pass = other; seq = last })

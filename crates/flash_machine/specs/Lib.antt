@@ -32,5 +32,6 @@ pub mod Steps
 pub mod Storing
 pub mod Summing
 pub mod Touching
+pub mod WriteLaws
 pub mod Writes
 pub mod Written

@@ -25,4 +25,5 @@ pub record HasNoLookup (g : Geometry) (h : List Entry) (id : Id) : Type 0 where
 
 -- a step that is new to a run has no lookup in it
 abbrev pub ANewStepHasNoLookup : Type 0
-ANewStepHasNoLookup = (g : Geometry) (h : List Entry) (id : Id) → Legal g h → IsTrue (is_new_step h id) → HasNoLookup g h id
+ANewStepHasNoLookup =
+    (g : Geometry) (h : List Entry) (id : Id) → Legal g h → IsTrue (is_new_step h id) → HasNoLookup g h id
