@@ -1,19 +1,14 @@
 -- The read of a step, from its begin on.
-use Rattle.std.proofs.Common.{◌≡◌, ℕ, Bool, true, false, cond, List, [], ◌∷◌, ◌++◌, length, Option, None, Some, refl, sym, ◌∙◌, ap, subst, arith, append_assoc}
-use Rattle.std.specs.Prelude.{nat_eq, is_none}
+use Rattle.std.proofs.Common.{◌≡◌, ℕ, Bool, true, false, cond, List, [], ◌∷◌, ◌++◌, length, Option, None, Some, refl, sym, ◌∙◌, ap, subst, append_assoc}
 use Rattle.std.specs.Option.{option_map}
 use Rattle.std.specs.List.{AllByRecursion}
-use Rattle.std.proofs.lemmas.Bool.{and_parts}
-use Rattle.std.proofs.lemmas.Bool.Decides.{nat_tests}
 use Rattle.flash_names.specs.declared.place.Id.{Id}
 use Rattle.flash_names.specs.declared.place.Place.{Place}
 use Rattle.flash_names.specs.declared.geometry.Geometry.{Geometry}
 use Rattle.flash_entry.specs.declared.entry.Entry.{Entry}
 use Rattle.flash_entry.specs.declared.entry.Entry.TheVariants as entries
-use Rattle.flash_machine.specs.PageLabels.{is_in_use}
 use Rattle.flash_machine.specs.Lookups.{same_id}
 use Rattle.flash_machine.specs.DeviceReads.{DeviceRead, with_outcome, read_step, read_of}
-use Rattle.flash_machine.specs.Rules.{is_open_read}
 use Rattle.flash_machine.specs.Written.{IsWritten}
 use Rattle.flash_machine.specs.Honest.{Honest}
 use Rattle.flash_machine.specs.HonestLaws.{BeginsNoWriteOver, read_journal}
@@ -21,6 +16,7 @@ use Rattle.flash_machine.specs.Orderly.{IsOrderly, OrderlyFrom, Orderly}
 use Rattle.flash_machine.proofs.Same.{id_itself, equal_ids}
 use Rattle.flash_machine.proofs.EntrySteps.{read_off-one}
 use Rattle.flash_machine.proofs.HonestReads.{each_read_agrees, read_is_written}
+use Rattle.flash_machine.proofs.RuleMeanings.{may_read, may_end_read}
 use Rattle.flash_machine.proofs.Onward.{EachFrom-keeps, EachFrom-split}
 
 module _ (id : Id) (place : Place) where
@@ -29,10 +25,6 @@ module _ (id : Id) (place : Place) where
   ReadsPlace None = ⊥
   ReadsPlace (Some read) = read.place ≡ place
 
-  unread : (read : Option DeviceRead) → ReadsPlace read → is_none read ≡ true → ⊥
-  unread None reads none = reads
-  unread (Some read) reads none = cc none
-
   ended_reads : (b : Bool) (outcome : Option (List ℕ)) (read : Option DeviceRead) → ReadsPlace read → ReadsPlace (cond b (option_map (with_outcome outcome) read) read)
   ended_reads true outcome (Some read) reads = reads
   ended_reads true outcome None reads = reads
@@ -40,14 +32,13 @@ module _ (id : Id) (place : Place) where
 
   module _ (g : Geometry) where
     -- no other read of the step begins
-    began_reads : (h : List Entry) (other : Id) (at : Place) (b : Bool) → same_id other id ≡ b → is_none (read_of other h) ≡ true → ReadsPlace (read_of id h)
+    began_reads : (h : List Entry) (other : Id) (at : Place) (b : Bool) → same_id other id ≡ b → read_of other h ≡ None → ReadsPlace (read_of id h)
         → ReadsPlace (cond b (Some (record { place = at; outcome = None })) (read_of id h))
     began_reads h other at false is none reads = reads
-    began_reads h other at true is none reads = absurd (unread (read_of id h) reads (ap (λ (i : Id). is_none (read_of i h)) (sym (equal_ids other id is)) ∙ none))
+    began_reads h other at true is none reads = absurd (subst ReadsPlace (ap (λ (i : Id). read_of i h) (sym (equal_ids other id is)) ∙ none) reads)
 
     step_reads : (h : List Entry) (e : Entry) → IsOrderly g h e → ReadsPlace (read_of id h) → ReadsPlace (read_step id (read_of id h) e)
-    step_reads h (entries.ReadBegan other at reader) orderly reads =
-        began_reads h other at (same_id other id) refl (and_parts (is_in_use h at.label) (is_none (read_of other h)) orderly).1 reads
+    step_reads h (entries.ReadBegan other at reader) orderly reads = began_reads h other at (same_id other id) refl (may_read h other at orderly).first reads
     step_reads h (entries.ReadEnded other outcome) orderly reads = ended_reads (same_id other id) outcome (read_of id h) reads
     step_reads h _ orderly reads = reads
 
@@ -70,19 +61,15 @@ module _ (id : Id) (place : Place) where
         subst (λ (j : List Entry). ReadsPlace (read_of id j)) (append_assoc before (entries.ReadBegan id place reader ∷ []) since)
         (reads_on (before ++ entries.ReadBegan id place reader ∷ []) since behind (began before reader))
 
-  ended_length : (bytes : List ℕ) (read : Option DeviceRead) → ReadsPlace read → is_open_read (Some bytes) read ≡ true → length bytes ≡ place.length
-  ended_length bytes None reads ends = absurd reads
-  ended_length bytes (Some read) reads ends =
-      let long : nat_eq (length bytes) read.place.length ≡ true = (and_parts (is_none read.outcome) _ ends).1 in
-      let same : length bytes ≡ read.place.length = grind (arith, nat_tests) in same ∙ ap (λ (p : Place). p.length) reads
-
 -- a good end of a read has as many bytes as its place
 pub read_length : (g : Geometry) (before since after : List Entry) (id : Id) (place : Place) (reader : ℕ) (bytes : List ℕ)
     → Orderly g ((before ++ entries.ReadBegan id place reader ∷ since) ++ entries.ReadEnded id (Some bytes) ∷ after) → length bytes ≡ place.length
 read_length g before since after id place reader bytes orderly =
     let h = before ++ entries.ReadBegan id place reader ∷ since in
     let parts = EachFrom-split (IsOrderly g) h (entries.ReadEnded id (Some bytes) ∷ after) orderly in
-    ended_length id place bytes (read_of id h) (reads_since id place g before since reader parts.0) parts.1.0
+    let may = may_end_read h id (Some bytes) parts.1.0 in
+    let same : may.0 ≡ place = subst (ReadsPlace id place) may.1 (reads_since id place g before since reader parts.0) in
+    may.2 ∙ ap (λ (p : Place). p.length) same
 
 -- a read of an orderly and honest journal gives what was written
 pub read_gives_written : (g : Geometry) (before since after : List Entry) (id : Id) (place : Place) (reader : ℕ) (was bytes : List ℕ)

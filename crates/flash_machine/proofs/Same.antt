@@ -1,7 +1,7 @@
 -- Numbers of steps, labels, places and answers that pass the test of being the same are equal, and each passes it with itself.
 use Rattle.std.proofs.Common.{◌≡◌, ℕ, true, refl, ap, arith}
 use Rattle.std.specs.Prelude.{nat_eq}
-use Rattle.std.proofs.lemmas.Bool.{and_parts}
+use Rattle.std.proofs.lemmas.Bool.{and_parts, and_from}
 use Rattle.std.proofs.lemmas.Bool.Decides.{nat_tests}
 use Rattle.flash_names.specs.declared.place.Id.{Id}
 use Rattle.flash_names.specs.declared.place.Label.{Label}
@@ -38,6 +38,9 @@ id_itself id = grind (arith, nat_tests)
 same_ranges : (label other : Label) (offset first length last : ℕ) → label ≡ other → offset ≡ first → length ≡ last
     → ◌≡◌ {A = Place} (record { label = label; offset = offset; length = length }) (record { label = other; offset = first; length = last })
 same_ranges label other offset first length last one two three = cc
+
+pub place_itself : (place : Place) → same_place place place ≡ true
+place_itself place = and_from _ _ (and_from _ _ (label_itself place.label) (number_itself place.offset)) (number_itself place.length)
 
 pub equal_places : (one other : Place) → same_place one other ≡ true → one ≡ other
 equal_places one other same =

@@ -1,8 +1,7 @@
 -- The bytes that were written, from a write's end on.
-use Rattle.std.proofs.Common.{◌≡◌, ℕ, ◌+◌, ◌-◌, ◌<◌, Bool, true, false, cond, List, [], ◌∷◌, ◌++◌, length, get_or, slice_get, Option, None, Some, refl, sym, ◌∙◌, ap, subst, arith, append_assoc}
+use Rattle.std.proofs.Common.{◌≡◌, ℕ, ◌+◌, ◌-◌, ◌<◌, Bool, true, false, cond, List, [], ◌∷◌, ◌++◌, get_or, slice_get, Option, None, Some, refl, sym, ◌∙◌, ap, subst, arith, append_assoc}
 use Rattle.std.specs.List.{AllByRecursion}
 use Rattle.std.proofs.lemmas.List.{append-nil}
-use Rattle.std.proofs.lemmas.Bool.{false≢true, and_parts, eqb-true}
 use Rattle.std.proofs.lemmas.Bool.Decides.{nat_tests}
 use Rattle.std.proofs.lemmas.Option.{slice_get-get_or}
 use Rattle.flash_names.specs.declared.place.Place.{Place}
@@ -13,18 +12,12 @@ use Rattle.flash_machine.specs.Places.{has_byte}
 use Rattle.flash_machine.specs.Writes.{open_write_step, open_write}
 use Rattle.flash_machine.specs.Written.{byte_after_write, byte_step, written, IsWritten}
 use Rattle.flash_machine.specs.Honest.{BeginsNoWrite}
-use Rattle.flash_machine.specs.Rules.{is_place}
 use Rattle.flash_machine.specs.Orderly.{IsOrderly, OrderlyFrom, Orderly}
 use Rattle.flash_machine.specs.HonestLaws.{BeginsNoWriteOver}
-use Rattle.flash_machine.proofs.Same.{equal_places}
 use Rattle.flash_machine.proofs.Onward.{each_journal, EachFrom-split}
 use Rattle.flash_machine.proofs.EntrySteps.{read_off-one}
+use Rattle.flash_machine.proofs.RuleMeanings.{may_end_write}
 use Rattle.flash_machine.proofs.HonestReads.{begin_no_write}
-
--- the open write is of the place
-pub open_there : (place : Place) (open_one : Option Place) → is_place place open_one ≡ true → open_one ≡ Some place
-open_there place None is = absurd (false≢true is)
-open_there place (Some other) is = ap (λ (p : Place). Some p) (equal_places other place is)
 
 module _ (page offset : ℕ) where
   -- a byte of the open write isn't known
@@ -63,7 +56,7 @@ module _ (page offset : ℕ) where
     known_step : (h : List Entry) (e : Entry) → IsOrderly g h e → BeginsNoWrite page offset e → written page offset h ≡ Some byte → byte_step page offset (written page offset h) e ≡ Some byte
     known_step h (entries.WriteBegan place) orderly none known = ap (λ (b : Bool). cond b None (written page offset h)) none ∙ known
     known_step h (entries.WriteEnded place outcome) orderly none known =
-        let is = open_there place (open_write h) (and_parts (is_place place (open_write h)) _ orderly).0 in
+        let is = (may_end_write h place outcome orderly).write in
         unwritten place outcome (written page offset h) (without_known h place byte (has_byte place page offset) refl is known) ∙ known
     known_step h _ orderly none known = known
 
@@ -91,7 +84,7 @@ module _ (g : Geometry) where
   nth_byte bytes first i = let same : first + i - first ≡ i = omega arith in ap (slice_get bytes) same
 
   pub good_write : (h : List Entry) (place : Place) (bytes : List ℕ) → IsOrderly g h (entries.WriteEnded place (Some bytes)) → IsWritten (h ++ entries.WriteEnded place (Some bytes) ∷ []) place bytes
-  good_write h place bytes orderly = record { long = eqb-true (length bytes) place.length (and_parts (is_place place (open_write h)) _ orderly).1; same = at }
+  good_write h place bytes orderly = record { long = (may_end_write h place (Some bytes) orderly).long; same = at }
     where
       at : (i : ℕ) → i < place.length → written place.label.page (place.offset + i) (h ++ entries.WriteEnded place (Some bytes) ∷ []) ≡ slice_get bytes i
       at i within =

@@ -31,7 +31,7 @@ abbrev pub ends_read_well : Entry → Bool
 ends_read_well (entries.ReadEnded id (Some bytes)) = true
 ends_read_well _ = false
 
--- after an honest journal each entry is honest that doesn't end a read with bytes
+-- an entry that doesn't end a read with bytes is honest after any journal
 abbrev pub OnlyReadBytesAreAsked : Type 0
 OnlyReadBytesAreAsked = (h : List Entry) (e : Entry) → ends_read_well e ≡ false → IsHonestEntry h e
 

@@ -25,6 +25,7 @@ pub mod ReadOff
 pub mod ReadingOffLaws
 pub mod Records
 pub mod Rising
+pub mod RuleFacts
 pub mod Rules
 pub mod Same
 pub mod Splits
