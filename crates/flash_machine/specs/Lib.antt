@@ -21,6 +21,7 @@ pub mod Orderly
 pub mod OrderlyLaws
 pub mod PageLabels
 pub mod Places
+pub mod ReadLaws
 pub mod ReadOff
 pub mod ReadingOffLaws
 pub mod Records
