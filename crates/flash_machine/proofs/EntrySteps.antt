@@ -1,20 +1,20 @@
 -- What an entry more makes of what is read off a journal.
-use Rattle.std.proofs.Common.{◌≡◌, Bool, true, false, ◌||◌, List, [], ◌∷◌, ◌++◌, Option, None, Some, refl, sym, ◌∙◌, ap, append_assoc}
+use Rattle.std.proofs.Common.{◌≡◌, Bool, true, false, ◌||◌, List, [], ◌∷◌, ◌++◌, Option, None, refl, sym, ◌∙◌, ap, append_assoc}
+use Rattle.std.specs.List.{list_any}
 use Rattle.std.proofs.lemmas.List.{append-nil}
 use Rattle.std.proofs.lemmas.List.Folds.{list_any-append}
 use Rattle.flash_names.specs.declared.place.Id.{Id}
-use Rattle.flash_names.specs.declared.place.Label.{Label}
 use Rattle.flash_names.specs.declared.geometry.Geometry.{Geometry}
 use Rattle.flash_entry.specs.declared.entry.Close.{Close}
 use Rattle.flash_entry.specs.declared.entry.Entry.{Entry}
 use Rattle.flash_machine.specs.Cache.{Cache, first_cache}
-use Rattle.flash_machine.specs.Live.{ends, label_has_ended}
+use Rattle.flash_machine.specs.Live.{ends}
 use Rattle.flash_machine.specs.ReadOff.{read_off}
 use Rattle.flash_machine.specs.PageLabels.{label_step, version_step}
 use Rattle.flash_machine.specs.Steps.{next, cache_from, cache_of}
-use Rattle.flash_machine.specs.Writes.{open_write_step, last_write_step}
+use Rattle.flash_machine.specs.Writes.{open_write_step, last_write_step, ends_good_write}
 use Rattle.flash_machine.specs.Written.{byte_step}
-use Rattle.flash_machine.specs.Lookups.{Lookup, lookup_step, lookup_from, open_lookup, closing_of, closings_from, closings}
+use Rattle.flash_machine.specs.Lookups.{Lookup, lookup_step, lookup_from, open_lookup, closing_of, closings_from, closings, is_from_buffer}
 use Rattle.flash_machine.specs.DeviceReads.{read_step}
 use Rattle.flash_machine.specs.ReadingOffLaws.{IsReadOff}
 
@@ -33,8 +33,8 @@ or_end true b = refl
 or_end false true = refl
 or_end false false = refl
 
-pub label_has_ended-one : (label : Label) (h : List Entry) (e : Entry) → label_has_ended (h ++ e ∷ []) (Some label) ≡ (label_has_ended h (Some label) || ends label e)
-label_has_ended-one label h e = list_any-append (ends label) h (e ∷ []) ∙ or_end (label_has_ended h (Some label)) (ends label e)
+pub list_any-one : (test : Entry → Bool) (h : List Entry) (e : Entry) → list_any test (h ++ e ∷ []) ≡ (list_any test h || test e)
+list_any-one test h e = list_any-append test h (e ∷ []) ∙ or_end (list_any test h) (test e)
 
 module _ (g : Geometry) where
   module _ (id : Id) where
@@ -66,10 +66,12 @@ module _ (g : Geometry) where
     byte = λ page offset. read_off-one (byte_step page offset) None h e;
     write = read_off-one open_write_step None h e;
     outcome = λ label. read_off-one (last_write_step label) None h e;
+    good = λ label offset. list_any-one (ends_good_write label offset) h e;
     label = λ page. read_off-one (label_step page) None h e;
     version = read_off-one version_step 0 h e;
-    ended = λ label. label_has_ended-one label h e;
+    ended = λ label. list_any-one (ends label) h e;
     read = λ id. read_off-one (read_step id) None h e;
+    buffer = λ id. list_any-one (is_from_buffer id) h e;
     lookup = λ id. open_lookup-append id h (e ∷ []);
     closed = closings-append h (e ∷ []) ∙ ap (λ (t : List (Lookup × Close)). closings g h ++ t) (append-nil (closing_of g h e));
   }

@@ -5,7 +5,6 @@ use Rattle.std.specs.Option.{option_map}
 use Rattle.std.specs.List.{list_any}
 use Rattle.std.proofs.lemmas.Bool.{false≢true, and_parts, or_left, or_right, or_cases, not-true, eqb-true, false_from_ne_true}
 use Rattle.std.proofs.lemmas.Bool.Decides.{nat_tests}
-use Rattle.std.proofs.lemmas.List.Folds.{list_any-append}
 use Rattle.flash_names.specs.declared.place.Id.{Id}
 use Rattle.flash_names.specs.declared.place.Label.{Label}
 use Rattle.flash_names.specs.declared.place.Place.{Place}
@@ -30,7 +29,7 @@ use Rattle.flash_machine.specs.Splits.{journal_of_two}
 use Rattle.flash_machine.proofs.Runs.{Legal-split, LegalFrom-keeps}
 use Rattle.flash_machine.proofs.Same.{id_itself, equal_ids}
 use Rattle.flash_machine.proofs.Onward.{each_journal}
-use Rattle.flash_machine.proofs.EntrySteps.{read_off-one, open_lookup-append}
+use Rattle.flash_machine.proofs.EntrySteps.{read_off-one, list_any-one, open_lookup-append}
 
 -- whether the journal records this step, or a later one of its pass
 abbrev pub has_step : Id → List Entry → Bool
@@ -40,7 +39,7 @@ pub new_has_no_step : (h : List Entry) (id : Id) → is_new_step h id ≡ true �
 new_has_no_step h id new = not-true (has_step id h) (and_parts (nat_lt 0 id.pass) _ new).1
 
 still_has_step : (id : Id) (h : List Entry) (e : Entry) → has_step id h ≡ true → has_step id (h ++ e ∷ []) ≡ true
-still_has_step id h e has = list_any-append (λ x. is_as_late id (step_id x)) h (e ∷ []) ∙ or_left (has_step id h) _ has
+still_has_step id h e has = list_any-one (λ x. is_as_late id (step_id x)) h e ∙ or_left (has_step id h) _ has
 
 late_itself : (id : Id) → is_as_late id (Some id) ≡ true
 late_itself id = grind (arith, nat_tests)
@@ -48,7 +47,7 @@ late_itself id = grind (arith, nat_tests)
 looked_has_step : (id other : Id) (h : List Entry) (e : Entry) → step_id e ≡ Some other → same_id other id ≡ true → has_step id (h ++ e ∷ []) ≡ true
 looked_has_step id other h e is same =
     let late : is_as_late id (step_id e) ≡ true = ap (is_as_late id) (is ∙ ap (λ (i : Id). Some i) (equal_ids other id same)) ∙ late_itself id in
-    list_any-append (λ x. is_as_late id (step_id x)) h (e ∷ []) ∙ or_right (has_step id h) _ (or_left (is_as_late id (step_id e)) false late)
+    list_any-one (λ x. is_as_late id (step_id x)) h e ∙ or_right (has_step id h) _ late
 
 -- what a lookup makes of the open one, where it is of another step or wants no value
 not_opened : (key : List ℕ) (live : Option Item) (found : Residence) (was : Option Lookup) → opened_by false key live found was ≡ was
@@ -197,12 +196,9 @@ module _ (g : Geometry) (id : Id) where
   buffered_step h _ meets from = absurd (false≢true from)
 
   buffered_one : (h : List Entry) (e : Entry) → Meets g h (cache_of g h) e → IsBuffered h (was_from_buffer id h) → IsBuffered (h ++ e ∷ []) (was_from_buffer id (h ++ e ∷ []))
-  buffered_one h e meets was is = elim (or_cases (was_from_buffer id h) _ (sym (list_any-append (is_from_buffer id) h (e ∷ [])) ∙ is)) [
+  buffered_one h e meets was is = elim (or_cases (was_from_buffer id h) (is_from_buffer id e) (sym (list_any-one (is_from_buffer id) h e) ∙ is)) [
     | inl one ↦ still_has_step id h e (was one)
-    | inr here ↦ elim (or_cases (is_from_buffer id e) false here) [
-      | inl from ↦ still_has_step id h e (buffered_step h e meets from)
-      | inr none ↦ absurd (false≢true none)
-    ]
+    | inr from ↦ still_has_step id h e (buffered_step h e meets from)
   ]
 
   pub is_buffered : (h : List Entry) → Legal g h → IsBuffered h (was_from_buffer id h)

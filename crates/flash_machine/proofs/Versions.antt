@@ -14,7 +14,7 @@ use Rattle.flash_machine.specs.Splits.{journal_of_two}
 use Rattle.flash_machine.specs.LabelLaws.{AreUpToLast}
 use Rattle.flash_machine.proofs.Same.{equal_labels}
 use Rattle.flash_machine.proofs.Onward.{EachFrom-keeps, EachFrom-split}
-use Rattle.flash_machine.proofs.EntrySteps.{read_off-one, label_has_ended-one}
+use Rattle.flash_machine.proofs.EntrySteps.{read_off-one, list_any-one}
 use Rattle.flash_machine.proofs.RuleMeanings.{in_use, over, next_label}
 
 -- no label that a page has, or that has ended, has a version above the last one
@@ -69,7 +69,7 @@ module _ (g : Geometry) where
       let step = within_step h e orderly was in
       let last : last_version (h ++ e ∷ []) ≡ version_step (last_version h) e = read_off-one version_step 0 h e in record {
         has = λ page label is. subst (λ (n : ℕ). label.version ≤ n) (sym last) (step.has page label (sym (read_off-one (label_step page) None h e) ∙ is));
-        ended = λ label is. subst (λ (n : ℕ). label.version ≤ n) (sym last) (step.ended label (sym (label_has_ended-one label h e) ∙ is));
+        ended = λ label is. subst (λ (n : ℕ). label.version ≤ n) (sym last) (step.ended label (sym (list_any-one (ends label) h e) ∙ is));
       }
 
   none_within : AreWithin []

@@ -1,5 +1,5 @@
 -- What an orderly journal says of the labels of pages.
-use Rattle.std.specs.Prelude.{◌≡◌, ℕ, ◌<◌, ◌≤◌, Bool, true, false, List, ◌∷◌, ◌++◌, Some}
+use Rattle.std.specs.Prelude.{◌≡◌, ℕ, ◌+◌, ◌<◌, ◌≤◌, Bool, true, false, List, [], ◌∷◌, ◌++◌, Some}
 use Rattle.std.specs.List.{list_any}
 use Rattle.flash_names.specs.declared.place.Label.{Label}
 use Rattle.flash_names.specs.declared.geometry.Geometry.{Geometry}
@@ -7,7 +7,7 @@ use Rattle.flash_names.specs.Labels.{same_label}
 use Rattle.flash_entry.specs.declared.entry.Entry.{Entry}
 use Rattle.flash_entry.specs.declared.entry.Entry.TheVariants as entries
 use Rattle.flash_machine.specs.Live.{label_has_ended}
-use Rattle.flash_machine.specs.PageLabels.{page_label, last_version}
+use Rattle.flash_machine.specs.PageLabels.{page_label, last_version, free_pages}
 use Rattle.flash_machine.specs.Orderly.{Orderly}
 use Rattle.flash_machine.specs.Splits.{journal_of_two}
 
@@ -65,3 +65,25 @@ abbrev pub ALabelStaysUntilFreed : Type 0
 ALabelStaysUntilFreed =
     (g : Geometry) (h es : List Entry) (label : Label) → Orderly g (h ++ es) → page_label label.page h ≡ Some label
     → list_any (frees label) es ≡ false → page_label label.page (h ++ es) ≡ Some label
+
+-- the label that a page has is of that page, which is one of the geometry's
+abbrev pub ALabelIsOfItsPage : Type 0
+ALabelIsOfItsPage =
+    (g : Geometry) (h : List Entry) (page : ℕ) (label : Label) → Orderly g h → page_label page h ≡ Some label
+    → (label.page ≡ page) × (page < g.pages)
+
+-- the number of free pages before and after an entry: an opening takes one, and a freeing gives one back
+abbrev pub IsCountAfter : Entry → ℕ → ℕ → Type 0
+IsCountAfter (entries.Opened label) before after = after + 1 ≡ before
+IsCountAfter (entries.Freed label) before after = after ≡ before + 1
+IsCountAfter _ before after = after ≡ before
+
+-- each entry of an orderly journal changes the number of free pages by what its kind says
+abbrev pub FreePagesAreCounted : Type 0
+FreePagesAreCounted =
+    (g : Geometry) (h : List Entry) (e : Entry) → Orderly g (h ++ e ∷ [])
+    → IsCountAfter e (free_pages g h) (free_pages g (h ++ e ∷ []))
+
+-- before the first entry all pages are free
+abbrev pub AllPagesAreFreeAtFirst : Type 0
+AllPagesAreFreeAtFirst = (g : Geometry) → free_pages g [] ≡ g.pages
