@@ -1,6 +1,6 @@
 // What the rules decide, and those of pages, reads and writes in facts. Each function has no body: its contract is the
 // law.
-ghost use Rattle.flash_machine.specs.Deciding.{RulesDecide};
+ghost use Rattle.flash_machine.specs.Deciding.{RulesDecide, TheLowestIsNamed};
 ghost use Rattle.flash_machine.specs.RuleFacts.{InUseInFacts, OverInFacts, OpenedInFacts, WriteBeganInFacts};
 ghost use Rattle.flash_machine.specs.RuleFacts.{WriteEndedInFacts, ReadBeganInFacts, ReadEndedInFacts};
 
@@ -16,7 +16,9 @@ pub fn rules_of_pages_in_facts()
     ensures read_ended { ReadEndedInFacts }
 {}
 
-/// No rule is broken exactly where each holds: what the checker decides is what a run asks.
+/// No rule is broken exactly where each holds: what the checker decides is what a run asks. The rule that is named is
+/// broken, and each of the entry's rules of a lower number holds.
 pub fn rules_decide()
-    ensures { RulesDecide }
+    ensures decide { RulesDecide }
+    ensures lowest { TheLowestIsNamed }
 {}
