@@ -10,26 +10,23 @@ use Rattle.flash_entry.specs.Text.{number}
 use Rattle.flash_entry.proofs.WordLemmas.{length-words}
 
 -- no byte is a space
-IsOneWord : List ℕ → Type 0
+abbrev pub IsOneWord : List ℕ → Type 0
 IsOneWord [] = Unit {0}
 IsOneWord (b ∷ bytes) = ((b == 32) ≡ false) × IsOneWord bytes
 
 one_word-with_more : (front : List ℕ) (b : ℕ) → IsOneWord front → (b == 32) ≡ false → IsOneWord (front ++ b ∷ [])
-unfolding IsOneWord
 one_word-with_more [] b front last = (last, tt)
 one_word-with_more (x ∷ front) b one last = (one.0, one_word-with_more front b one.1 last)
 
-other_than_space : (n : ℕ) → (48 + n == 32) ≡ false
+pub other_than_space : (n : ℕ) → (48 + n == 32) ≡ false
 other_than_space n = grind (arith, nat_tests)
 
-one_word-decimal : (n : ℕ) → n < 2 ^ 64 → IsOneWord (decimal n)
-unfolding IsOneWord
+pub one_word-decimal : (n : ℕ) → n < 2 ^ 64 → IsOneWord (decimal n)
 one_word-decimal n small =
     decimal_by_steps (λ n ds. IsOneWord ds) (λ n digit. (other_than_space n, tt))
     (λ n ds large front. one_word-with_more ds (48 + n % 10) front (other_than_space (n % 10))) n small
 
-words-one : (w : List ℕ) → IsOneWord w → words w ≡ w ∷ []
-unfolding IsOneWord
+pub words-one : (w : List ℕ) → IsOneWord w → words w ≡ w ∷ []
 words-one [] one = refl
 words-one (b ∷ bytes) one = rw one.0 (ap (in_first b) (words-one bytes one.1))
 
@@ -43,7 +40,7 @@ by_space b true us ws vs same some = ap (λ (l : List (List ℕ)). [] ∷ l) sam
 by_space b false us ws vs same some = ap (in_first b) same ∙ in_first-front b ws vs some
 
 -- the words on both sides of a space
-words-append : (front back : List ℕ) → words (front ++ 32 ∷ back) ≡ words front ++ words back
+pub words-append : (front back : List ℕ) → words (front ++ 32 ∷ back) ≡ words front ++ words back
 words-append [] back = refl
 words-append (b ∷ front) back =
     by_space b (b == 32) (words (front ++ 32 ∷ back)) (words front) (words back) (words-append front back) (omega (arith, length-words front))
@@ -92,7 +89,7 @@ value-decimal n small =
 pub if_below-small : (limit n : ℕ) → n < limit → if_below limit (Some n) ≡ Some n
 if_below-small limit n small = rw (lt-ltb n limit small) refl
 
-number_of-decimal : (n : ℕ) → n < 2 ^ 64 → number_of (decimal n) ≡ Some n
+pub number_of-decimal : (n : ℕ) → n < 2 ^ 64 → number_of (decimal n) ≡ Some n
 number_of-decimal n small =
     let some = decimal_nonempty n small in
     let most = length-decimal-le 20 n (omega arith) (omega arith) small in

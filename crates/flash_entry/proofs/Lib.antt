@@ -1,3 +1,14 @@
+mod Back
+mod BackEntries
+mod BackFields
+mod BackSteps
+mod DigitLemmas
+mod FixedLemmas
 mod GeometryLineWords
+mod NumberWords
 mod ReadBack
+mod Sound
+mod SoundEntries
+mod SoundFields
+mod SoundSteps
 mod WordLemmas

@@ -1,5 +1,13 @@
+pub mod Cursor
+pub mod EntryLaws
+pub mod EntryReading
 pub mod EntryText
+pub mod FieldReading
+pub mod FixedWords
 pub mod GeometryLine
 pub mod GeometryLineLaws
+pub mod IsEntry
 pub mod Noted
+pub mod Readings
 pub mod Text
+pub mod WordValues

@@ -13,25 +13,36 @@
 mod answer;
 mod ask;
 mod copy;
+mod cursor;
 mod entry;
+mod entry_fault;
+mod fixed;
 mod found;
 mod geometry_line;
 mod journal;
+mod kinds;
 mod laws;
 mod note;
 mod print;
+mod read;
+mod read_step;
 mod text;
+mod values;
 mod words;
 
 pub use answer::{Gone, Stored, Sum, Summed, Tally, Touched};
 pub use ask::{Arith, Ask, Create, Look, Mode, Put};
 pub use entry::{Close, Done, DropCause, EndCause, Entry, Residence};
+pub use entry_fault::EntryFault;
 pub use found::{Cause, Closed, Head, Hit, LookAnswer, Outcome, Told};
 pub use geometry_line::{HeadFault, print_head, read_head};
 pub use journal::{Counted, Journal, Kept};
-pub use laws::geometry_lines_are_read_back;
+pub use laws::{each_entry_is_read_back, geometry_lines_are_read_back, what_is_read_is_its_line};
 pub use note::{CloseNote, DoneNote, Note};
 pub use print::print_entry;
+pub use read::read_entry;
 
+#[cfg(test)]
+mod read_tests;
 #[cfg(test)]
 mod tests;
