@@ -1,1 +1,6 @@
+mod Answering
+mod Deciding
+mod FirstLine
+mod LineCuts
 mod Streams
+mod Results
