@@ -98,7 +98,7 @@ good_by : (g : Geometry) (h : List Entry) (r : Result Entry EntryFault) → Some
 good_by g h (Err fault) is = absurd (cc is)
 good_by g h (Ok e) is = record { entry = e; read = refl; keeps = none_broken (broken_by g h e) (cc is) }
 
-length-push : (h : List Entry) (e : Entry) → length (h ++ e ∷ []) ≡ length h + 1
+pub length-push : (h : List Entry) (e : Entry) → length (h ++ e ∷ []) ≡ length h + 1
 length-push [] e = refl
 length-push (x ∷ h) e = omega (arith, length-push h e)
 

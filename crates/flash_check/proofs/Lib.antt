@@ -4,3 +4,4 @@ mod FirstLine
 mod LineCuts
 mod Streams
 mod Results
+mod Runs

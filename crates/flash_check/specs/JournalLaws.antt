@@ -1,19 +1,16 @@
 -- Which bytes are a journal that is a run, and that these are the ones that a checker answers so.
-use Rattle.std.specs.Prelude.{◌≡◌, ◌↔◌, ℕ, ◌≤◌, ◌==◌, not, List, ◌∷◌, ◌++◌, length, true, Ok}
-use Rattle.std.specs.List.{flat_map, list_all, AllByRecursion}
+use Rattle.std.specs.Prelude.{◌≡◌, ◌↔◌, ℕ, ◌≤◌, List, ◌∷◌, ◌++◌, length, Ok}
+use Rattle.std.specs.List.{flat_map, AllByRecursion}
 use Rattle.flash_names.specs.declared.geometry.Geometry.{Geometry}
 use Rattle.flash_entry.specs.declared.entry.Entry.{Entry}
 use Rattle.flash_entry.specs.IsEntry.{IsEntry}
 use Rattle.flash_entry.specs.EntryText.{entry_line}
 use Rattle.flash_entry.specs.GeometryLine.{geometry_of_line}
+use Rattle.flash_entry.specs.OneLine.{IsOneLine}
 use Rattle.flash_machine.specs.Legal as runs
 use Rattle.flash_check.specs.declared.status.CheckStatus.TheVariants.{Legal}
 use Rattle.flash_check.specs.declared.status.TheConstants.{MAX_BYTES}
 use Rattle.flash_check.specs.Verdicts.{verdict_on}
-
--- bytes of one line: none of them is a line feed
-abbrev pub IsOneLine : List ℕ → Type 0
-IsOneLine line = list_all (λ b. not (b == 10)) line ≡ true
 
 -- The bytes are one good `store` line and the lines of so many entries, each ended by a line feed, and these entries
 -- are a run of the one-thread cache of that geometry.
