@@ -8,8 +8,8 @@ use Rattle.flash_entry.specs.declared.entry.Entry.{Entry}
 use Rattle.flash_entry.specs.declared.entry_fault.EntryFault.{EntryFault}
 use Rattle.flash_entry.specs.EntryReading.{reading}
 use Rattle.flash_machine.specs.Stands.{StandsFor, verdict_of}
-use Rattle.flash_machine.specs.declared.stub.Machine.{Machine}
-use Rattle.flash_machine.specs.declared.stub.Verdict.TheVariants as verdicts
+use Rattle.flash_machine.specs.declared.machine.Machine.{Machine}
+use Rattle.flash_machine.specs.declared.machine.Verdict.TheVariants as verdicts
 use Rattle.flash_check.specs.declared.status.CheckStatus.{CheckStatus}
 use Rattle.flash_check.specs.declared.status.CheckStatus.TheVariants.{Legal, Illegal, BadLine}
 use Rattle.flash_check.specs.Lines.{Lines, lines_of}

@@ -6,8 +6,8 @@ use Rattle.flash_names.specs.declared.geometry.Geometry.{Geometry}
 use Rattle.flash_entry.specs.declared.entry.Entry.{Entry}
 use Rattle.flash_entry.specs.EntryReading.{reading}
 use Rattle.flash_machine.specs.Stands.{StandsFor, verdict_of}
-use Rattle.flash_machine.specs.declared.stub.Machine.{Machine}
-use Rattle.flash_machine.specs.declared.stub.Verdict.{Verdict}
+use Rattle.flash_machine.specs.declared.machine.Machine.{Machine}
+use Rattle.flash_machine.specs.declared.machine.Verdict.{Verdict}
 use Rattle.flash_check.specs.Verdicts.{broken_by}
 
 -- the verdict on the entry of a line after a journal, where the line is read as one
