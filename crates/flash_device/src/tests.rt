@@ -108,3 +108,14 @@ fn keeps_its_bytes_in_a_file(rt: HostRuntime) -> Result<(), Fail> {
     assert!(rt; FileDevice::open(&rt, "/tmp").is_err());
     Ok(())
 }
+
+#[test]
+fn prints_its_errors(rt: HostRuntime) -> Result<(), Fail> {
+    let fault = format!(in rt.alloc(); "{}", DeviceFault)?;
+    assert_eq!(rt; fault.as_str(), "the device failed to read or to write");
+    let unprepared = format!(in rt.alloc(); "{}", PrepareError::Fault)?;
+    assert_eq!(rt; unprepared.as_str(), "the device can't be prepared");
+    let crowded = format!(in rt.alloc(); "{}", PrepareError::NoMemory)?;
+    assert_eq!(rt; crowded.as_str(), "out of memory");
+    Ok(())
+}

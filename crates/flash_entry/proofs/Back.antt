@@ -21,7 +21,8 @@ AreWords-append (w ∷ ws) vs one ones = (one.0, AreWords-append ws vs one.1 one
 
 spaced-append : (ws vs : List (List ℕ)) → spaced (ws ++ vs) ≡ spaced ws ++ spaced vs
 spaced-append [] vs = refl
-spaced-append (w ∷ ws) vs = ap (λ (l : List ℕ). 32 ∷ (w ++ l)) (spaced-append ws vs) ∙ ap (λ (l : List ℕ). 32 ∷ l) (sym (append_assoc w (spaced ws) (spaced vs)))
+spaced-append (w ∷ ws) vs =
+    ap (λ (l : List ℕ). 32 ∷ (w ++ l)) (spaced-append ws vs) ∙ ap (λ (l : List ℕ). 32 ∷ l) (sym (append_assoc w (spaced ws) (spaced vs)))
 
 -- the text's words are read as the value
 pub record ReadsBack {A : Type 0} (reading : Reading A) (text : List ℕ) (value : A) : Type 0 where
@@ -30,7 +31,8 @@ pub record ReadsBack {A : Type 0} (reading : Reading A) (text : List ℕ) (value
   pub one : AreWords words
   pub read : (more : List (List ℕ)) (place : ℕ) → reading (left_at (words ++ more) place) ≡ Ok (value, left_at more (place + length words))
 
-then_reads : {A B : Type 0} (first : Reading A) (next : A → Reading B) (value : A) (out : B) (ws vs more : List (List ℕ)) (place : ℕ)
+then_reads : {A B : Type 0} (first : Reading A) (next : A → Reading B) (value : A) (out : B)
+    (ws vs more : List (List ℕ)) (place : ℕ)
     → first (left_at (ws ++ (vs ++ more)) place) ≡ Ok (value, left_at (vs ++ more) (place + length ws))
     → next value (left_at (vs ++ more) (place + length ws)) ≡ Ok (out, left_at more (place + length ws + length vs))
     → and_then (first (left_at ((ws ++ vs) ++ more) place)) next ≡ Ok (out, left_at more (place + length (ws ++ vs)))
@@ -51,14 +53,17 @@ pub record ReadsParts {A : Type 0} (reading : Reading A) (parts : List (List ℕ
   pub one : AreWords words
   pub read : (more : List (List ℕ)) (place : ℕ) → reading (left_at (words ++ more) place) ≡ Ok (value, left_at more (place + length words))
 
-spelled_after : (front text : List ℕ) (parts ws vs : List (List ℕ)) → text ≡ spaced ws → with_parts (front ++ text) parts ≡ (front ++ text) ++ spaced vs
+spelled_after : (front text : List ℕ) (parts ws vs : List (List ℕ)) → text ≡ spaced ws
+    → with_parts (front ++ text) parts ≡ (front ++ text) ++ spaced vs
     → with_parts front (text ∷ parts) ≡ front ++ spaced (ws ++ vs)
 spelled_after front text parts ws vs is more =
     more ∙ append_assoc front text (spaced vs) ∙ ap (λ (l : List ℕ). front ++ (l ++ spaced vs)) is ∙ ap (λ (l : List ℕ). front ++ l) (sym (spaced-append ws vs))
 
 -- a text, and those after it
-pub also : {A B : Type 0} {first : Reading A} {text : List ℕ} {value : A} {parts : List (List ℕ)} {out : B} (next : A → Reading B)
-    → ReadsBack first text value → ReadsParts (next value) parts out → ReadsParts (λ left. and_then (first left) next) (text ∷ parts) out
+pub also : {A B : Type 0} {first : Reading A} {text : List ℕ} {value : A} {parts : List (List ℕ)} {out : B}
+    (next : A → Reading B)
+    → ReadsBack first text value → ReadsParts (next value) parts out
+    → ReadsParts (λ left. and_then (first left) next) (text ∷ parts) out
 also {first = first} {text = text} {value = value} {parts = parts} {out = out} next a b =
     record {
       words = a.words ++ b.words;
@@ -78,15 +83,18 @@ nothing {value = value} =
     }
 
 -- the texts as one
-pub in_order : {A : Type 0} {reading : Reading A} {text : List ℕ} {parts : List (List ℕ)} {value : A} → ReadsParts reading (text ∷ parts) value → ReadsBack reading (with_parts text parts) value
+pub in_order : {A : Type 0} {reading : Reading A} {text : List ℕ} {parts : List (List ℕ)} {value : A}
+    → ReadsParts reading (text ∷ parts) value → ReadsBack reading (with_parts text parts) value
 in_order a = record { words = a.words; spelled = a.spelled []; one = a.one; read = a.read }
 
 -- the same text written otherwise
-pub as_text : {A : Type 0} {reading : Reading A} {text other : List ℕ} {value : A} → text ≡ other → ReadsBack reading text value → ReadsBack reading other value
+pub as_text : {A : Type 0} {reading : Reading A} {text other : List ℕ} {value : A} → text ≡ other
+    → ReadsBack reading text value → ReadsBack reading other value
 as_text same a = record { words = a.words; spelled = sym same ∙ a.spelled; one = a.one; read = a.read }
 
 -- a word that has a value
-pub one_back : {A : Type 0} {value : A} (value_of : List ℕ → Option A) (bad : ℕ → EntryFault) (w : List ℕ) → IsOneWord w → value_of w ≡ Some value
+pub one_back : {A : Type 0} {value : A} (value_of : List ℕ → Option A) (bad : ℕ → EntryFault) (w : List ℕ)
+    → IsOneWord w → value_of w ≡ Some value
     → ReadsBack (λ left. and_then (next_word left) (λ word. value_or (value_of word) bad)) (32 ∷ w) value
 unfolding next_word
 one_back {value = value} value_of bad w one is =

@@ -20,7 +20,7 @@ use Rattle.flash_entry.specs.Readings.{next_word, end_of_line}
 use Rattle.flash_entry.specs.FixedWords as fixed
 use Rattle.flash_entry.specs.FieldReading as fields
 use Rattle.flash_entry.specs.EntryLaws.{EachEntryIsReadBack}
-use Rattle.flash_entry.specs.EntryReading.{residence_at, residence_of, residence, hit, lost, close_of, close, clock, did, looked, buffered, read_began, read_ended, closed, moved, recached, dropped, write_began, write_ended, opened, ended, freed, of_step, of_lookup, of_item, of_page, of_kind, whole, value_of, reading}
+use Rattle.flash_entry.specs.EntryReading.{residence_of, residence, hit, lost, close_of, close, clock, did, looked, buffered, read_began, read_ended, closed, moved, recached, dropped, write_began, write_ended, opened, ended, freed, of_step, of_lookup, of_item, of_page, of_kind, whole, value_of, reading}
 use Rattle.flash_entry.specs.IsEntry.{IsResidence, IsClose, IsEntry}
 use Rattle.flash_entry.proofs.FixedLemmas.{no_space, kind_text, kind-word, kind-back as kind_word-back}
 use Rattle.flash_entry.proofs.Sound.{spaced}
@@ -29,7 +29,7 @@ use Rattle.flash_entry.proofs.BackFields.{number-back, narrow-back, signed_if-ba
 use Rattle.flash_entry.proofs.BackSteps.{step-back}
 
 residence-back : (at : Residence) → IsResidence at → ReadsBack residence (residence_text at) at
-unfolding residence residence_of residence_at
+unfolding residence residence_of
 residence-back residences.Nothing is = in_order (also _ (number_or_none-back None tt) nothing)
 residence-back (residences.Here cas) is =
     in_order (also _ (number_or_none-back (Some cas) is) (also _ (narrow_or_here-back None tt) nothing))
@@ -120,13 +120,15 @@ kind_word-of (entries.Ended _ _) = refl
 kind_word-of (entries.Freed _) = refl
 
 whole-back : (entry : Entry) (w : List ℕ) (ws : List (List ℕ)) (place : ℕ) → fixed.kind w ≡ Some (kind_of entry)
-    → of_kind (kind_of entry) (left_at (ws ++ []) 1) ≡ Ok (entry, left_at [] place) → value_of (whole (left_at (w ∷ ws) 0)) ≡ Ok entry
+    → of_kind (kind_of entry) (left_at (ws ++ []) 1) ≡ Ok (entry, left_at [] place)
+    → value_of (whole (left_at (w ∷ ws) 0)) ≡ Ok entry
 unfolding whole fields.kind next_word end_of_line
 whole-back entry w ws place is_kind is_entry =
     let read : of_kind (kind_of entry) (left_at ws 1) ≡ Ok (entry, left_at [] place) = ap (λ (l : List (List ℕ)). of_kind (kind_of entry) (left_at l 1)) (sym (append-nil ws)) ∙ is_entry in
     rw (is_kind, read) refl
 
-words-entry : (entry : Entry) (ws : List (List ℕ)) → entry_rest entry ≡ spaced ws → AreWords ws → words (kind_word entry ++ entry_rest entry) ≡ kind_text (kind_of entry) ∷ ws
+words-entry : (entry : Entry) (ws : List (List ℕ)) → entry_rest entry ≡ spaced ws → AreWords ws
+    → words (kind_word entry ++ entry_rest entry) ≡ kind_text (kind_of entry) ∷ ws
 words-entry entry ws spelled one =
     ap (λ (l : List ℕ). words (l ++ entry_rest entry)) (kind_word-of entry) ∙ ap (λ (l : List ℕ). words (kind_text (kind_of entry) ++ l)) spelled
     ∙ words-spaced (kind_text (kind_of entry)) ws (kind-word (kind_of entry)) one
@@ -136,7 +138,8 @@ unfolding reading
 read_text entry is =
     let back = entry-back entry is in
     ap (λ (l : List (List ℕ)). value_of (whole (left_at l 0))) (words-entry entry back.words back.spelled back.one)
-    ∙ whole-back entry (kind_text (kind_of entry)) back.words (1 + length back.words) (kind_word-back (kind_of entry)) (back.read [] 1)
+    ∙ whole-back entry (kind_text (kind_of entry)) back.words (1 + length back.words)
+    (kind_word-back (kind_of entry)) (back.read [] 1)
 
 pub entry_read_back : EachEntryIsReadBack
 entry_read_back entry line is same =

@@ -30,13 +30,15 @@ use Rattle.flash_entry.proofs.FixedLemmas.{same_bytes, no_space, kind_text, verb
 use Rattle.flash_entry.proofs.SoundFields.{number_or_none_text, narrow_or_here_text}
 use Rattle.flash_entry.proofs.Back.{ReadsBack, also, nothing, in_order, one_back}
 
-or_at : {A : Type 0} (other w : List ℕ) (of : List ℕ → Option A) (x : A) (test : Bool) → bytes_eq w other ≡ test → of other ≡ None → of w ≡ Some x
+or_at : {A : Type 0} (other w : List ℕ) (of : List ℕ → Option A) (x : A) (test : Bool) → bytes_eq w other ≡ test
+    → of other ≡ None → of w ≡ Some x
     → (if test then Some None else option_map (λ v. Some v) (of w)) ≡ Some (Some x)
 or_at other w of x true at none is = absurd (cc (ap of (same_bytes w other at), none, is))
 or_at other w of x false at none is = ap (option_map (λ v. Some v)) is
 
 -- a word that is not the one for nothing
-or-back : {A : Type 0} (other w : List ℕ) (of : List ℕ → Option A) (x : A) → of other ≡ None → of w ≡ Some x → or_word other of w ≡ Some (Some x)
+or-back : {A : Type 0} (other w : List ℕ) (of : List ℕ → Option A) (x : A) → of other ≡ None → of w ≡ Some x
+    → or_word other of w ≡ Some (Some x)
 or-back other w of x none is = or_at other w of x (bytes_eq w other) refl none is
 
 pub number-back : (n : ℕ) → IsNumber n → ReadsBack fields.number (number n) n
@@ -45,7 +47,8 @@ number-back n is = one_back values.plain_number BadNumber (decimal n) (one_word-
 
 pub narrow-back : (n : ℕ) → IsNarrow n → ReadsBack fields.narrow (number n) n
 unfolding fields.narrow
-narrow-back n is = one_back values.narrow_number BadNumber (decimal n) (one_word-decimal n (omega arith)) (narrow_word-back n is)
+narrow-back n is =
+    one_back values.narrow_number BadNumber (decimal n) (one_word-decimal n (omega arith)) (narrow_word-back n is)
 
 pub signed-back : (z : ℤ) → IsSigned z → ReadsBack fields.signed (signed z) z
 unfolding fields.signed
@@ -55,42 +58,51 @@ pub number_if-back : (o : Option ℕ) → IfSome o IsNumber → ReadsBack fields
 unfolding fields.number_if values.optional_number values.plain_number
 number_if-back None is = one_back values.optional_number BadNumber (codes "-") (no_space (codes "-") refl) refl
 number_if-back (Some n) is =
-    one_back values.optional_number BadNumber (decimal n) (one_word-decimal n is) (or-back (codes "-") (decimal n) values.plain_number n refl (plain-back n is))
+    one_back values.optional_number BadNumber (decimal n) (one_word-decimal n is)
+    (or-back (codes "-") (decimal n) values.plain_number n refl (plain-back n is))
 
 pub signed_if-back : (o : Option ℤ) → IfSome o IsSigned → ReadsBack fields.signed_if (signed_if o) o
 unfolding fields.signed_if values.optional_signed values.signed_number values.plain_number
 signed_if-back None is = one_back values.optional_signed BadNumber (codes "-") (no_space (codes "-") refl) refl
 signed_if-back (Some z) is =
-    one_back values.optional_signed BadNumber (signed_decimal z) (signed-word z is) (or-back (codes "-") (signed_decimal z) values.signed_number z refl (signed_word-back z is))
+    one_back values.optional_signed BadNumber (signed_decimal z) (signed-word z is)
+    (or-back (codes "-") (signed_decimal z) values.signed_number z refl (signed_word-back z is))
 
 pub number_or_none-back : (o : Option ℕ) → IfSome o IsNumber → ReadsBack fields.number_or_none (number_or_none_text o) o
 unfolding fields.number_or_none values.number_or_none values.plain_number
-number_or_none-back None is = one_back values.number_or_none BadNumber (codes "none") (no_space (codes "none") refl) refl
+number_or_none-back None is =
+    one_back values.number_or_none BadNumber (codes "none") (no_space (codes "none") refl) refl
 number_or_none-back (Some n) is =
-    one_back values.number_or_none BadNumber (decimal n) (one_word-decimal n is) (or-back (codes "none") (decimal n) values.plain_number n refl (plain-back n is))
+    one_back values.number_or_none BadNumber (decimal n) (one_word-decimal n is)
+    (or-back (codes "none") (decimal n) values.plain_number n refl (plain-back n is))
 
 pub narrow_or_here-back : (o : Option ℕ) → IfSome o IsNarrow → ReadsBack fields.narrow_or_here (narrow_or_here_text o) o
 unfolding fields.narrow_or_here values.narrow_or_here values.narrow_number values.plain_number
-narrow_or_here-back None is = one_back values.narrow_or_here BadNumber (codes "here") (no_space (codes "here") refl) refl
+narrow_or_here-back None is =
+    one_back values.narrow_or_here BadNumber (codes "here") (no_space (codes "here") refl) refl
 narrow_or_here-back (Some n) is =
     let small : n < 18446744073709551616 = omega arith in
-    one_back values.narrow_or_here BadNumber (decimal n) (one_word-decimal n small) (or-back (codes "here") (decimal n) values.narrow_number n refl (narrow_word-back n is))
+    one_back values.narrow_or_here BadNumber (decimal n) (one_word-decimal n small)
+    (or-back (codes "here") (decimal n) values.narrow_number n refl (narrow_word-back n is))
 
 pub key-back : (key : List ℕ) → IsKey key → ReadsBack fields.key (hexadecimal key) key
 unfolding fields.key
 key-back [] is = let some = is.some in absurd (omega arith)
 key-back (b ∷ bytes) is =
-    one_back values.key_of_digits BadWord (encode_lower (b ∷ bytes)) (digits-word (b ∷ bytes) is.bytes) (key_word-back (b ∷ bytes) is)
+    one_back values.key_of_digits BadWord (encode_lower (b ∷ bytes)) (digits-word (b ∷ bytes) is.bytes)
+    (key_word-back (b ∷ bytes) is)
 
 pub value-back : (value : List ℕ) → IsBytes value → ReadsBack fields.value (hexadecimal value) value
 unfolding fields.value values.value_of_digits
 value-back [] is = one_back values.value_of_digits BadWord (codes "-") (no_space (codes "-") refl) refl
 value-back (b ∷ bytes) is =
-    one_back values.value_of_digits BadWord (encode_lower (b ∷ bytes)) (digits-word (b ∷ bytes) is) (value_word-back (b ∷ bytes) is (omega arith))
+    one_back values.value_of_digits BadWord (encode_lower (b ∷ bytes)) (digits-word (b ∷ bytes) is)
+    (value_word-back (b ∷ bytes) is (omega arith))
 
 pub bytes_or_failed-back : (o : Option (List ℕ)) → IfSome o IsBytes → ReadsBack fields.bytes_or_failed (bytes_text o) o
 unfolding fields.bytes_or_failed values.bytes_or_failed values.value_of_digits values.bytes_of_digits
-bytes_or_failed-back None is = one_back values.bytes_or_failed BadWord (codes "failed") (no_space (codes "failed") refl) refl
+bytes_or_failed-back None is =
+    one_back values.bytes_or_failed BadWord (codes "failed") (no_space (codes "failed") refl) refl
 bytes_or_failed-back (Some []) is = one_back values.bytes_or_failed BadWord (codes "-") (no_space (codes "-") refl) refl
 bytes_or_failed-back (Some (b ∷ bytes)) is =
     one_back values.bytes_or_failed BadWord (encode_lower (b ∷ bytes)) (digits-word (b ∷ bytes) is)

@@ -16,7 +16,7 @@ use Rattle.flash_entry.specs.declared.entry.Done.TheVariants as deeds
 use Rattle.flash_entry.specs.declared.kinds.Verb.TheVariants as verbs
 use Rattle.flash_entry.specs.EntryText.{stored_text, summed_text, sum_text, create_text, done_text}
 use Rattle.flash_entry.specs.FixedWords as fixed
-use Rattle.flash_entry.specs.EntryReading.{stored, stored_of, summed, sum, sum_of, create_of, create_if, store, delete, arith, touch, flush, stats, step_of, step}
+use Rattle.flash_entry.specs.EntryReading.{stored, stored_of, summed, sum, sum_of, create_of, create_if, store, delete, arithmetic, touch, flush, stats, step_of, step}
 use Rattle.flash_entry.specs.IsEntry.{IsNumber, IsSigned, IsKey, IsPut, IsCreate, IsArith, IsStored, IsSummed, IsSum, IsTally, IsDone}
 use Rattle.flash_entry.proofs.FixedLemmas.{no_space}
 use Rattle.flash_entry.proofs.Back.{ReadsBack, also, nothing, in_order, next_word-back}
@@ -66,7 +66,8 @@ create-back None is = in_order (also _ (signed_if-back None tt) (also _ dash-bac
 create-back (Some create) is =
     in_order (also _ (signed_if-back (Some create.exptime) is.exptime) (also _ (number-back create.start is.start) nothing))
 
-store-back : (put : Put) (answer : Stored) → IsPut put → IsStored answer → ReadsBack step (done_text (deeds.Store put answer)) (deeds.Store put answer)
+store-back : (put : Put) (answer : Stored) → IsPut put → IsStored answer
+    → ReadsBack step (done_text (deeds.Store put answer)) (deeds.Store put answer)
 unfolding step step_of store
 store-back put answer is is_answer =
     in_order
@@ -90,9 +91,10 @@ delete-back key compare answer is_key is_compare =
     (also _ equality-back
     (also _ (gone-back answer) nothing)))))
 
-arith-back : (ask : Arith) (answer : Sum) → IsArith ask → IsSum answer → ReadsBack step (done_text (deeds.Sum ask answer)) (deeds.Sum ask answer)
-unfolding step step_of arith
-arith-back ask answer is is_answer =
+arithmetic-back : (ask : Arith) (answer : Sum) → IsArith ask → IsSum answer
+    → ReadsBack step (done_text (deeds.Sum ask answer)) (deeds.Sum ask answer)
+unfolding step step_of arithmetic
+arithmetic-back ask answer is is_answer =
     in_order
     (also _ (verb-back (verbs.Sum ask.down))
     (also _ (key-back ask.key is.key)
@@ -138,7 +140,7 @@ stats-back tally is =
 pub step-back : (done : Done) → IsDone done → ReadsBack step (done_text done) done
 step-back (deeds.Store put answer) is = store-back put answer is.0 is.1
 step-back (deeds.Delete key compare answer) is = delete-back key compare answer is.0 is.1
-step-back (deeds.Sum ask answer) is = arith-back ask answer is.0 is.1
+step-back (deeds.Sum ask answer) is = arithmetic-back ask answer is.0 is.1
 step-back (deeds.Touch key exptime answer) is = touch-back key exptime answer is.0 is.1
 step-back (deeds.Flush delay) is = flush-back delay is
 step-back (deeds.Stats tally) is = stats-back tally is

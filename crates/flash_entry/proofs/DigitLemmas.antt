@@ -15,7 +15,8 @@ use Rattle.flash_entry.specs.WordValues.{if_key, is_lower_digit, bytes_of_digits
 use Rattle.flash_entry.proofs.GeometryLineWords.{IsOneWord}
 use Rattle.flash_entry.proofs.FixedLemmas.{same_bytes}
 
-too_long_at : (digits : List ℕ) (read : Result (List ℕ) FromHexError) → 500 < length digits → decode_of digits ≡ read → option_and_then if_key (result_ok read) ≡ None
+too_long_at : (digits : List ℕ) (read : Result (List ℕ) FromHexError) → 500 < length digits → decode_of digits ≡ read
+    → option_and_then if_key (result_ok read) ≡ None
 too_long_at digits (Ok bytes) long is =
     let twice : length digits ≡ 2 * length bytes = (decode_of-ok digits bytes is).2 in
     let over : nat_le (length bytes) 250 ≡ false = grind (arith, nat_tests) in
@@ -35,11 +36,15 @@ digit_of value = get_or lower_digits value 0
 lower-digit_of : (value : ℕ) → value < 16 → is_lower_digit (digit_of value) ≡ true
 lower-digit_of value small = AllPass-from_list_all is_lower_digit lower_digits refl value 0 small
 
-by_ranges : (c value : ℕ) (upper letter digit : Bool) → (nat_le 65 c && nat_le c 70) ≡ upper → (nat_le 97 c && nat_le c 102) ≡ letter → (nat_le 48 c && nat_le c 57) ≡ digit
-    → (digit || letter) ≡ true → (if upper then Some (c - 55) else if letter then Some (c - 87) else if digit then Some (c - 48) else None) ≡ Some value
+by_ranges : (c value : ℕ) (upper letter digit : Bool) → (nat_le 65 c && nat_le c 70) ≡ upper
+    → (nat_le 97 c && nat_le c 102) ≡ letter → (nat_le 48 c && nat_le c 57) ≡ digit
+    → (digit || letter) ≡ true
+    → (if upper then Some (c - 55) else if letter then Some (c - 87) else if digit then Some (c - 48) else None) ≡ Some value
     → ((48 ≤ c) × (c ≤ 57) × (value + 48 ≡ c)) ⊎ ((97 ≤ c) × (c ≤ 102) × (value + 87 ≡ c))
-by_ranges c value true true digit at_upper at_letter at_digit lower is = absurd (grind (arith, nat_tests, at_upper, at_letter))
-by_ranges c value true false true at_upper at_letter at_digit lower is = absurd (grind (arith, nat_tests, at_upper, at_digit))
+by_ranges c value true true digit at_upper at_letter at_digit lower is =
+    absurd (grind (arith, nat_tests, at_upper, at_letter))
+by_ranges c value true false true at_upper at_letter at_digit lower is =
+    absurd (grind (arith, nat_tests, at_upper, at_digit))
 by_ranges c value true false false at_upper at_letter at_digit lower is = absurd (cc lower)
 by_ranges c value false true digit at_upper at_letter at_digit lower is =
     let same : c - 87 ≡ value = cc is in
@@ -57,9 +62,11 @@ by_ranges c value false false false at_upper at_letter at_digit lower is = absur
 digit_ranges : (c value : ℕ) → is_lower_digit c ≡ true → hex_digit_value c ≡ Some value
     → ((48 ≤ c) × (c ≤ 57) × (value + 48 ≡ c)) ⊎ ((97 ≤ c) × (c ≤ 102) × (value + 87 ≡ c))
 digit_ranges c value lower is =
-    by_ranges c value (nat_le 65 c && nat_le c 70) (nat_le 97 c && nat_le c 102) (nat_le 48 c && nat_le c 57) refl refl refl lower is
+    by_ranges c value (nat_le 65 c && nat_le c 70) (nat_le 97 c && nat_le c 102)
+    (nat_le 48 c && nat_le c 57) refl refl refl lower is
 
-same_digit : (c d value : ℕ) → is_lower_digit c ≡ true → is_lower_digit d ≡ true → hex_digit_value c ≡ Some value → hex_digit_value d ≡ Some value → c ≡ d
+same_digit : (c d value : ℕ) → is_lower_digit c ≡ true → is_lower_digit d ≡ true → hex_digit_value c ≡ Some value
+    → hex_digit_value d ≡ Some value → c ≡ d
 same_digit c d value lower_c lower_d is_c is_d =
     elim (digit_ranges c value lower_c is_c) [
       | inl low ↦ elim (digit_ranges d value lower_d is_d) [ inl l ↦ omega arith | inr l ↦ omega arith ]
@@ -77,7 +84,8 @@ digit-spelled c value lower is =
 
 -- ---- the digits of bytes
 
-then_ok : {A B : Type 0} (read : Result A FromHexError) (next : A → Result B FromHexError) (out : B) → (read >>= next) ≡ Ok out → (x : A) × (read ≡ Ok x) × (next x ≡ Ok out)
+then_ok : {A B : Type 0} (read : Result A FromHexError) (next : A → Result B FromHexError) (out : B)
+    → (read >>= next) ≡ Ok out → (x : A) × (read ≡ Ok x) × (next x ≡ Ok out)
 then_ok (Ok x) next out is = (x, refl, is)
 then_ok (Err e) next out is = absurd (cc is)
 
@@ -90,7 +98,8 @@ both true b is = (refl, is)
 both false b is = absurd (cc is)
 
 -- lower-case digits are those of the bytes that they decode to
-digits-spelled : (i : ℕ) (digits bytes : List ℕ) → list_all is_lower_digit digits ≡ true → decode_pairs i digits ≡ Ok bytes → encode_lower bytes ≡ digits
+digits-spelled : (i : ℕ) (digits bytes : List ℕ) → list_all is_lower_digit digits ≡ true
+    → decode_pairs i digits ≡ Ok bytes → encode_lower bytes ≡ digits
 unfolding decode_pairs encode_with
 digits-spelled i [] bytes lower is = let same : [] ≡ bytes = cc is in rw (← same) refl
 digits-spelled i (a ∷ []) bytes lower is = absurd (cc is)
@@ -119,7 +128,8 @@ record Spelled (w bytes : List ℕ) : Type 0 where
   are_bytes : IsBytes bytes
   some : 0 < length bytes
 
-read_bytes : (w bytes : List ℕ) (read : Result (List ℕ) FromHexError) → decode_of w ≡ read → 0 < length w → list_all is_lower_digit w ≡ true → result_ok read ≡ Some bytes → Spelled w bytes
+read_bytes : (w bytes : List ℕ) (read : Result (List ℕ) FromHexError) → decode_of w ≡ read → 0 < length w
+    → list_all is_lower_digit w ≡ true → result_ok read ≡ Some bytes → Spelled w bytes
 read_bytes w bytes (Err e) read some lower is = absurd (cc is)
 read_bytes w bytes (Ok found) read some lower is =
     let same : found ≡ bytes = cc is in
@@ -131,7 +141,8 @@ read_bytes w bytes (Ok found) read some lower is =
       some = let twice = ok.2 in omega arith;
     }
 
-by_both : {A : Type 0} (test : Bool) (all : Option A) (x : A) → (if test then all else None) ≡ Some x → (test ≡ true) × (all ≡ Some x)
+by_both : {A : Type 0} (test : Bool) (all : Option A) (x : A) → (if test then all else None) ≡ Some x
+    → (test ≡ true) × (all ≡ Some x)
 by_both true all x is = (refl, is)
 by_both false all x is = absurd (cc is)
 
@@ -147,7 +158,8 @@ hexadecimal-some : (bytes : List ℕ) → 0 < length bytes → hexadecimal bytes
 hexadecimal-some [] some = absurd (omega arith)
 hexadecimal-some (b ∷ bytes) some = refl
 
-key_at : (w key : List ℕ) (read : Option (List ℕ)) → bytes_of_digits w ≡ read → option_and_then if_key read ≡ Some key → (hexadecimal key ≡ 32 ∷ w) × IsKey key
+key_at : (w key : List ℕ) (read : Option (List ℕ)) → bytes_of_digits w ≡ read → option_and_then if_key read ≡ Some key
+    → (hexadecimal key ≡ 32 ∷ w) × IsKey key
 key_at w key None read is = absurd (cc is)
 key_at w key (Some bytes) read is =
     let test = by_both (nat_le (length bytes) 250) (Some bytes) key is in
@@ -163,7 +175,8 @@ pub key-spelled : (w key : List ℕ) → key_of_digits w ≡ Some key → (hexad
 unfolding key_of_digits
 key-spelled w key is = key_at w key (bytes_of_digits w) refl is
 
-value_at_dash : (w value : List ℕ) (dash : Bool) → bytes_eq w (codes "-") ≡ dash → (if dash then Some [] else bytes_of_digits w) ≡ Some value → (hexadecimal value ≡ 32 ∷ w) × IsBytes value
+value_at_dash : (w value : List ℕ) (dash : Bool) → bytes_eq w (codes "-") ≡ dash
+    → (if dash then Some [] else bytes_of_digits w) ≡ Some value → (hexadecimal value ≡ 32 ∷ w) × IsBytes value
 value_at_dash w value true at is =
     let same : [] ≡ value = cc is in
     subst (λ v. (hexadecimal v ≡ 32 ∷ w) × IsBytes v) same (ap (λ (l : List ℕ). 32 ∷ l) (sym (same_bytes w (codes "-") at)), λ i. omega arith)
@@ -214,9 +227,11 @@ dash-digits : bytes_of_digits (codes "-") ≡ None
 unfolding bytes_of_digits
 dash-digits = refl
 
-value_or_dash : (bytes : List ℕ) (dash : Bool) → bytes_eq (encode_lower bytes) (codes "-") ≡ dash → IsBytes bytes → 0 < length bytes
+value_or_dash : (bytes : List ℕ) (dash : Bool) → bytes_eq (encode_lower bytes) (codes "-") ≡ dash → IsBytes bytes
+    → 0 < length bytes
     → (if dash then Some [] else bytes_of_digits (encode_lower bytes)) ≡ Some bytes
-value_or_dash bytes true at are_bytes some = absurd (cc (bytes-back bytes are_bytes some, ap bytes_of_digits (same_bytes (encode_lower bytes) (codes "-") at), dash-digits))
+value_or_dash bytes true at are_bytes some =
+    absurd (cc (bytes-back bytes are_bytes some, ap bytes_of_digits (same_bytes (encode_lower bytes) (codes "-") at), dash-digits))
 value_or_dash bytes false at are_bytes some = bytes-back bytes are_bytes some
 
 pub value-back : (bytes : List ℕ) → IsBytes bytes → 0 < length bytes → value_of_digits (encode_lower bytes) ≡ Some bytes

@@ -40,7 +40,8 @@ use Rattle.flash_entry.proofs.GeometryLineWords.{IsOneWord}
 pub same_bytes : (w c : List ℕ) → bytes_eq w c ≡ true → w ≡ c
 same_bytes w c is = (bytes_eq-Decides w c).0 is
 
-pick_at : {A : Type 0} (P : A → Type 0) (w c : List ℕ) (test : Bool) (v x : A) (rest : Option A) → bytes_eq w c ≡ test → (w ≡ c → P v) → (rest ≡ Some x → P x)
+pick_at : {A : Type 0} (P : A → Type 0) (w c : List ℕ) (test : Bool) (v x : A) (rest : Option A) → bytes_eq w c ≡ test
+    → (w ≡ c → P v) → (rest ≡ Some x → P x)
     → (if test then Some v else rest) ≡ Some x → P x
 pick_at P w c true v x rest at first more is = let same : v ≡ x = cc is in subst P same (first (same_bytes w c at))
 pick_at P w c false v x rest at first more is = more is
@@ -54,13 +55,15 @@ pick P w c v x rest first more is = pick_at P w c (bytes_eq w c) v x rest refl f
 no_other : {A : Type 0} (P : A → Type 0) (x : A) → None ≡ Some x → P x
 no_other P x is = absurd (cc is)
 
-no_space_at : (b : ℕ) (space rest : Bool) → (b == 32) ≡ space → (not space && rest) ≡ true → ((b == 32) ≡ false) × (rest ≡ true)
+no_space_at : (b : ℕ) (space rest : Bool) → (b == 32) ≡ space → (not space && rest) ≡ true
+    → ((b == 32) ≡ false) × (rest ≡ true)
 no_space_at b true rest at is = absurd (cc is)
 no_space_at b false rest at is = (at, is)
 
 pub no_space : (w : List ℕ) → list_all (λ b. not (b == 32)) w ≡ true → IsOneWord w
 no_space [] is = tt
-no_space (b ∷ bytes) is = let at = no_space_at b (b == 32) (list_all (λ c. not (c == 32)) bytes) refl is in (at.0, no_space bytes at.1)
+no_space (b ∷ bytes) is =
+    let at = no_space_at b (b == 32) (list_all (λ c. not (c == 32)) bytes) refl is in (at.0, no_space bytes at.1)
 
 -- the first words
 abbrev pub step_text : StepKind → List ℕ
@@ -136,12 +139,14 @@ page_kind-spelled w x is =
     (no_other P x))))) is
 
 -- one of two readings of a word
-either : {A B : Type 0} (P : B → Type 0) (make : A → B) (first : Option A) (rest : Option B) (x : B) → ((v : A) → first ≡ Some v → P (make v)) → (rest ≡ Some x → P x)
+either : {A B : Type 0} (P : B → Type 0) (make : A → B) (first : Option A) (rest : Option B) (x : B)
+    → ((v : A) → first ≡ Some v → P (make v)) → (rest ≡ Some x → P x)
     → option_or (option_map make first) rest ≡ Some x → P x
 either P make None rest x here more is = more is
 either P make (Some v) rest x here more is = let same : make v ≡ x = cc is in subst P same (here v refl)
 
-last : {A B : Type 0} (P : B → Type 0) (make : A → B) (first : Option A) (x : B) → ((v : A) → first ≡ Some v → P (make v)) → option_map make first ≡ Some x → P x
+last : {A B : Type 0} (P : B → Type 0) (make : A → B) (first : Option A) (x : B)
+    → ((v : A) → first ≡ Some v → P (make v)) → option_map make first ≡ Some x → P x
 last P make None x here is = absurd (cc is)
 last P make (Some v) x here is = let same : make v ≡ x = cc is in subst P same (here v refl)
 
@@ -223,7 +228,8 @@ other_verb-spelled w x is =
 
 pub verb-spelled : (w : List ℕ) (x : Verb) → verb w ≡ Some x → verb_text x ≡ w
 unfolding verb
-verb-spelled w x is = either (λ v. verb_text v ≡ w) (λ m. verbs.Store m) (mode w) (other_verb w) x (mode-spelled w) (other_verb-spelled w x) is
+verb-spelled w x is =
+    either (λ v. verb_text v ≡ w) (λ m. verbs.Store m) (mode w) (other_verb w) x (mode-spelled w) (other_verb-spelled w x) is
 
 pub verb-back : (x : Verb) → verb (verb_text x) ≡ Some x
 unfolding verb mode other_verb

@@ -23,11 +23,13 @@ read_on n (d ∷ ds) = read_on (10 * n + (d - 48)) ds
 own : IsNumeralModel (λ ds. all_ascii_digits ds ≡ true) (read_on 0)
 own = numerals_by_fold _ (search rules) read_on (search rules)
 
-by_test : {A : Type 0} (test : Bool) (all : Option A) (x : A) → (if test then all else None) ≡ Some x → (test ≡ true) × (all ≡ Some x)
+by_test : {A : Type 0} (test : Bool) (all : Option A) (x : A) → (if test then all else None) ≡ Some x
+    → (test ≡ true) × (all ≡ Some x)
 by_test true all x is = (refl, is)
 by_test false all x is = absurd (cc is)
 
-digits-value_from : (n v : ℕ) (ds : List ℕ) → value_from n ds ≡ Some v → (all_ascii_digits ds ≡ true) × (read_on n ds ≡ v)
+digits-value_from : (n v : ℕ) (ds : List ℕ) → value_from n ds ≡ Some v
+    → (all_ascii_digits ds ≡ true) × (read_on n ds ≡ v)
 digits-value_from n v [] is = (refl, cc is)
 digits-value_from n v (d ∷ ds) is =
     let first = by_test (is_digit d) (value_from (10 * n + (d - 48)) ds) v is in
@@ -45,7 +47,8 @@ single : (ds : List ℕ) → has_leading_zero ds ≡ false → 0 < length ds →
 single [] plain some zero_first = absurd (omega arith)
 single (d ∷ ds) plain some zero_first = grind (arith, nat_tests, plain, zero_first)
 
-not_leading : (test : Bool) (all : Option ℕ) (n : ℕ) → (if test then None else all) ≡ Some n → (test ≡ false) × (all ≡ Some n)
+not_leading : (test : Bool) (all : Option ℕ) (n : ℕ) → (if test then None else all) ≡ Some n
+    → (test ≡ false) × (all ≡ Some n)
 not_leading true all n is = absurd (cc is)
 not_leading false all n is = (refl, is)
 
@@ -63,9 +66,11 @@ plain-spelled w n is =
 
 pub narrow-spelled : (w : List ℕ) (n : ℕ) → narrow_number w ≡ Some n → (decimal n ≡ w) × (n < 2 ^ 32)
 unfolding narrow_number
-narrow-spelled w n is = let below = below-if_below (2 ^ 32) (plain_number w) n is in ((plain-spelled w n below.0).0, below.1)
+narrow-spelled w n is =
+    let below = below-if_below (2 ^ 32) (plain_number w) n is in ((plain-spelled w n below.0).0, below.1)
 
-below_zero-spelled : (w : List ℕ) (distance : Option ℕ) (z : ℤ) → plain_number w ≡ distance → option_and_then below_zero distance ≡ Some z
+below_zero-spelled : (w : List ℕ) (distance : Option ℕ) (z : ℤ) → plain_number w ≡ distance
+    → option_and_then below_zero distance ≡ Some z
     → (signed_decimal z ≡ 45 ∷ w) × FitsSigned w64 z
 below_zero-spelled w None z read is = absurd (cc is)
 below_zero-spelled w (Some zero) z read is = absurd (cc is)
@@ -76,7 +81,8 @@ below_zero-spelled w (Some (suc n)) z read is =
     let fits : FitsSigned w64 (negsuc n) = record { sfits = small } in
     (ap signed_decimal (sym same) ∙ ap (λ (l : List ℕ). 45 ∷ l) (plain-spelled w (suc n) read).0, subst (FitsSigned w64) same fits)
 
-above_zero-spelled : (w : List ℕ) (number : Option ℕ) (z : ℤ) → if_below (2 ^ 63) (plain_number w) ≡ number → option_map pos number ≡ Some z
+above_zero-spelled : (w : List ℕ) (number : Option ℕ) (z : ℤ) → if_below (2 ^ 63) (plain_number w) ≡ number
+    → option_map pos number ≡ Some z
     → (signed_decimal z ≡ w) × FitsSigned w64 z
 above_zero-spelled w None z read is = absurd (cc is)
 above_zero-spelled w (Some n) z read is =
@@ -134,11 +140,13 @@ no_digits n is = cc is
 signed_plain : (w : List ℕ) (n : ℕ) → plain_number w ≡ Some n → n < 2 ^ 63 → signed_number w ≡ Some (pos n)
 unfolding signed_number
 signed_plain [] n is small = absurd (no_digits n is)
-signed_plain (b ∷ bytes) n is small = rw (no_sign b bytes n is) (ap (option_map pos) (ap (if_below (2 ^ 63)) is ∙ if_below-small (2 ^ 63) n small))
+signed_plain (b ∷ bytes) n is small =
+    rw (no_sign b bytes n is) (ap (option_map pos) (ap (if_below (2 ^ 63)) is ∙ if_below-small (2 ^ 63) n small))
 
 pub signed-back : (z : ℤ) → FitsSigned w64 z → signed_number (signed_decimal z) ≡ Some z
 unfolding signed_number
-signed-back (pos n) fits = let small : n < 2 ^ 63 = fits.sfits in signed_plain (decimal n) n (plain-back n (omega arith)) small
+signed-back (pos n) fits =
+    let small : n < 2 ^ 63 = fits.sfits in signed_plain (decimal n) n (plain-back n (omega arith)) small
 signed-back (negsuc n) fits =
     let small : n < 2 ^ 63 = fits.sfits in
     ap (option_and_then below_zero) (plain-back (suc n) (omega arith)) ∙ (rw (lt-ltb n (2 ^ 63) small) refl)

@@ -12,7 +12,8 @@ abbrev pub spaced : List (List ℕ) → List ℕ
 spaced [] = []
 spaced (w ∷ ws) = 32 ∷ (w ++ spaced ws)
 
-spaced-in_first : (b : ℕ) (ws : List (List ℕ)) (bytes : List ℕ) → spaced ws ≡ 32 ∷ bytes → spaced (in_first b ws) ≡ 32 ∷ b ∷ bytes
+spaced-in_first : (b : ℕ) (ws : List (List ℕ)) (bytes : List ℕ) → spaced ws ≡ 32 ∷ bytes
+    → spaced (in_first b ws) ≡ 32 ∷ b ∷ bytes
 spaced-in_first b [] bytes is = cc is
 spaced-in_first b (w ∷ ws) bytes is = cc is
 
@@ -38,7 +39,8 @@ pub record Sound {A : Type 0} (text : A → List ℕ) (IsIn : A → Type 0) (byt
 pub record IsSound {A : Type 0} (text : A → List ℕ) (IsIn : A → Type 0) (reading : Reading A) : Type 0 where
   pub from : (left : Left) → Sound text IsIn (spaced left.words) (reading left)
 
-given_at : {A : Type 0} (text : A → List ℕ) (IsIn : A → Type 0) (bytes : List ℕ) (read other : A × Left) → Begin bytes (text read.0) read.1 → IsIn read.0 → read ≡ other
+given_at : {A : Type 0} (text : A → List ℕ) (IsIn : A → Type 0) (bytes : List ℕ) (read other : A × Left)
+    → Begin bytes (text read.0) read.1 → IsIn read.0 → read ≡ other
     → Begin bytes (text other.0) other.1 × IsIn other.0
 given_at {A = A} text IsIn bytes read other begin is_in same =
     subst (λ (r : A × Left). Begin bytes (text r.0) r.1 × IsIn r.0) same (begin, is_in)
@@ -48,7 +50,8 @@ pub given : {A : Type 0} {text : A → List ℕ} {IsIn : A → Type 0} {bytes : 
 given {text = text} {IsIn = IsIn} {bytes = bytes} {value = value} {left = left} begin is_in =
     record { holds = λ v l is. given_at text IsIn bytes (value, left) (v, l) begin is_in (cc is) }
 
-then_at : {A B : Type 0} (text : A → List ℕ) (IsIn : A → Type 0) (out : B → List ℕ) (IsOut : B → Type 0) (bytes front : List ℕ) (left : Left) (outcome : Outcome A) (next : A → Reading B)
+then_at : {A B : Type 0} (text : A → List ℕ) (IsIn : A → Type 0) (out : B → List ℕ) (IsOut : B → Type 0)
+    (bytes front : List ℕ) (left : Left) (outcome : Outcome A) (next : A → Reading B)
     → Sound text IsIn (spaced left.words) outcome → Begin bytes front left
     → ((value : A) (rest : Left) → Begin bytes (front ++ text value) rest → IsIn value → Sound out IsOut bytes (next value rest))
     → Sound out IsOut bytes (and_then outcome next)
@@ -58,7 +61,8 @@ then_at text IsIn out IsOut bytes front left (Ok read) next first begin more =
 then_at text IsIn out IsOut bytes front left (Err fault) next first begin more = record { holds = λ value rest is. absurd (cc is) }
 
 -- a sound reading after this text, and what comes after it
-pub goes_on : {A B : Type 0} {text : A → List ℕ} {IsIn : A → Type 0} {first : Reading A} {out : B → List ℕ} {IsOut : B → Type 0} {bytes front : List ℕ} {left : Left} {next : A → Reading B}
+pub goes_on : {A B : Type 0} {text : A → List ℕ} {IsIn : A → Type 0} {first : Reading A} {out : B → List ℕ}
+    {IsOut : B → Type 0} {bytes front : List ℕ} {left : Left} {next : A → Reading B}
     → IsSound text IsIn first → Begin bytes front left
     → ((value : A) (rest : Left) → Begin bytes (front ++ text value) rest → IsIn value → Sound out IsOut bytes (next value rest))
     → Sound out IsOut bytes (and_then (first left) next)
@@ -69,12 +73,17 @@ goes_on {text = text} {IsIn = IsIn} {first = first} {out = out} {IsOut = IsOut} 
 pub at_start : (left : Left) → Begin (spaced left.words) [] left
 at_start left = record { is = refl }
 
-pub sound_or : {A : Type 0} (text : A → List ℕ) (IsIn : A → Type 0) (bytes : List ℕ) (value : Option A) (bad : ℕ → EntryFault) (left : Left) → ((v : A) → value ≡ Some v → Begin bytes (text v) left × IsIn v) → Sound text IsIn bytes (value_or value bad left)
+pub sound_or : {A : Type 0} (text : A → List ℕ) (IsIn : A → Type 0) (bytes : List ℕ) (value : Option A)
+    (bad : ℕ → EntryFault) (left : Left)
+    → ((v : A) → value ≡ Some v → Begin bytes (text v) left × IsIn v)
+    → Sound text IsIn bytes (value_or value bad left)
 sound_or text IsIn bytes None bad left each = record { holds = λ v l is. absurd (cc is) }
 sound_or text IsIn bytes (Some v) bad left each = let at = each v refl in given at.0 at.1
 
-one_of_words : {A : Type 0} (text : A → List ℕ) (IsIn : A → Type 0) (value_of : List ℕ → Option A) (bad : ℕ → EntryFault) (ws : List (List ℕ)) (place : ℕ)
-    → ((w : List ℕ) (v : A) → value_of w ≡ Some v → (text v ≡ 32 ∷ w) × IsIn v) → Sound text IsIn (spaced ws) (and_then (first_word ws place) (λ word. value_or (value_of word) bad))
+one_of_words : {A : Type 0} (text : A → List ℕ) (IsIn : A → Type 0) (value_of : List ℕ → Option A)
+    (bad : ℕ → EntryFault) (ws : List (List ℕ)) (place : ℕ)
+    → ((w : List ℕ) (v : A) → value_of w ≡ Some v → (text v ≡ 32 ∷ w) × IsIn v)
+    → Sound text IsIn (spaced ws) (and_then (first_word ws place) (λ word. value_or (value_of word) bad))
 one_of_words text IsIn value_of bad [] place each = record { holds = λ v l is. absurd (cc is) }
 one_of_words text IsIn value_of bad (w ∷ ws) place each =
     sound_or text IsIn (spaced (w ∷ ws)) (value_of w) bad (record { words = ws; place = place + 1 }) (λ v is.
@@ -82,8 +91,10 @@ one_of_words text IsIn value_of bad (w ∷ ws) place each =
     (record { is = ap (λ (l : List ℕ). l ++ spaced ws) (sym at.0) }, at.1))
 
 -- a word that stands for a value is the value's text
-pub one_word : {A : Type 0} {text : A → List ℕ} {IsIn : A → Type 0} (value_of : List ℕ → Option A) (bad : ℕ → EntryFault)
-    → ((w : List ℕ) (v : A) → value_of w ≡ Some v → (text v ≡ 32 ∷ w) × IsIn v) → IsSound text IsIn (next_word >>= (λ word. value_or (value_of word) bad))
+pub one_word : {A : Type 0} {text : A → List ℕ} {IsIn : A → Type 0} (value_of : List ℕ → Option A)
+    (bad : ℕ → EntryFault)
+    → ((w : List ℕ) (v : A) → value_of w ≡ Some v → (text v ≡ 32 ∷ w) × IsIn v)
+    → IsSound text IsIn (next_word >>= (λ word. value_or (value_of word) bad))
 unfolding next_word
 one_word {text = text} {IsIn = IsIn} value_of bad each = record { from = λ left. one_of_words text IsIn value_of bad left.words left.place each }
 
@@ -96,14 +107,19 @@ pub next_word-sound : IsSound (λ w. 32 ∷ w) (λ _. Unit {0}) next_word
 unfolding next_word
 next_word-sound = record { from = λ left. next_of left.words left.place }
 
-sound_if_at : {A : Type 0} (text : A → List ℕ) (IsIn : A → Type 0) (bytes : List ℕ) (test : Bool) (first other : Reading A) (left : Left)
-    → (test ≡ true → Sound text IsIn bytes (first left)) → Sound text IsIn bytes (other left) → Sound text IsIn bytes ((if test then first else other) left)
+sound_if_at : {A : Type 0} (text : A → List ℕ) (IsIn : A → Type 0) (bytes : List ℕ) (test : Bool)
+    (first other : Reading A) (left : Left)
+    → (test ≡ true → Sound text IsIn bytes (first left)) → Sound text IsIn bytes (other left)
+    → Sound text IsIn bytes ((if test then first else other) left)
 sound_if_at text IsIn bytes true first other left here there = here refl
 sound_if_at text IsIn bytes false first other left here there = there
 
 -- one reading after this word, and another after any other
-pub sound_if : {A : Type 0} (text : A → List ℕ) (IsIn : A → Type 0) (bytes w c : List ℕ) (first other : Reading A) (left : Left) → Begin bytes (32 ∷ w) left
-    → (Begin bytes (32 ∷ c) left → Sound text IsIn bytes (first left)) → Sound text IsIn bytes (other left) → Sound text IsIn bytes ((if bytes_eq w c then first else other) left)
+pub sound_if : {A : Type 0} (text : A → List ℕ) (IsIn : A → Type 0) (bytes w c : List ℕ) (first other : Reading A)
+    (left : Left)
+    → Begin bytes (32 ∷ w) left
+    → (Begin bytes (32 ∷ c) left → Sound text IsIn bytes (first left)) → Sound text IsIn bytes (other left)
+    → Sound text IsIn bytes ((if bytes_eq w c then first else other) left)
 sound_if text IsIn bytes w c first other left begin here there =
     sound_if_at text IsIn bytes (bytes_eq w c) first other left
     (λ is. here (record { is = begin.is ∙ ap (λ (l : List ℕ). (32 ∷ l) ++ spaced left.words) (same_bytes w c is) })) there

@@ -21,15 +21,17 @@ use Rattle.flash_entry.proofs.Sound.{spaced, spaced-words, Begin, Sound, IsSound
 use Rattle.flash_entry.proofs.SoundFields.{number_or_none_text, narrow_or_here_text, number-sound, narrow-sound, signed_if-sound, number_or_none-sound, narrow_or_here-sound, key-sound, value-sound, bytes_or_failed-sound, kind-sound, equality-sound, wanted-sound, cause-sound, drop_cause-sound, end_cause-sound, id-sound, label-sound, place-sound}
 use Rattle.flash_entry.proofs.SoundSteps.{step-sound}
 
-residence_at-sound : (cas : ℕ) (page : Option ℕ) (bytes : List ℕ) (left : Left) → Begin bytes (number cas ++ narrow_or_here_text page) left → IsNumber cas → IfSome page IsNarrow
+residence_at-sound : (cas : ℕ) (page : Option ℕ) (bytes : List ℕ) (left : Left)
+    → Begin bytes (number cas ++ narrow_or_here_text page) left → IsNumber cas → IfSome page IsNarrow
     → Sound residence_text IsResidence bytes (residence_at cas page left)
-unfolding residence_at
 residence_at-sound cas None bytes left at is_cas is_page = given at is_cas
 residence_at-sound cas (Some page) bytes left at is_cas is_page =
     goes_on number-sound at (λ version left at is_version.
-    given (begin_as (append_assoc (number cas) (number page) (number version)) at) (is_cas, record { page = is_page; version = is_version }))
+    given (begin_as (append_assoc (number cas) (number page) (number version)) at)
+    (is_cas, record { page = is_page; version = is_version }))
 
-residence_of-sound : (cas : Option ℕ) (bytes : List ℕ) (left : Left) → Begin bytes (number_or_none_text cas) left → IfSome cas IsNumber
+residence_of-sound : (cas : Option ℕ) (bytes : List ℕ) (left : Left) → Begin bytes (number_or_none_text cas) left
+    → IfSome cas IsNumber
     → Sound residence_text IsResidence bytes (residence_of cas left)
 unfolding residence_of
 residence_of-sound None bytes left at is_cas = given at tt
@@ -45,7 +47,8 @@ residence-sound =
           residence_of-sound cas _ left at is_cas);
     }
 
-hit-sound : (bytes : List ℕ) (left : Left) → Begin bytes (word (codes "hit")) left → Sound close_text IsClose bytes (hit left)
+hit-sound : (bytes : List ℕ) (left : Left) → Begin bytes (word (codes "hit")) left
+    → Sound close_text IsClose bytes (hit left)
 unfolding hit
 hit-sound bytes left at =
     goes_on narrow-sound at (λ flags left at is_flags.
@@ -53,7 +56,8 @@ hit-sound bytes left at =
     goes_on value-sound at (λ value left at is_value.
     given at (is_flags, is_cas, is_value))))
 
-lost-sound : (bytes : List ℕ) (left : Left) → Begin bytes (word (codes "lost")) left → Sound close_text IsClose bytes (lost left)
+lost-sound : (bytes : List ℕ) (left : Left) → Begin bytes (word (codes "lost")) left
+    → Sound close_text IsClose bytes (lost left)
 unfolding lost
 lost-sound bytes left at = goes_on cause-sound at (λ cause left at _. given at tt)
 
@@ -255,7 +259,8 @@ whole-sound =
 record Ends {A : Type 0} (outcome : Outcome A) : Type 0 where
   holds : (value : A) (left : Left) → outcome ≡ Ok (value, left) → left.words ≡ []
 
-ends_after : {A B : Type 0} (outcome : Outcome A) (next : A → Reading B) → ((value : A) (left : Left) → Ends (next value left)) → Ends (and_then outcome next)
+ends_after : {A B : Type 0} (outcome : Outcome A) (next : A → Reading B)
+    → ((value : A) (left : Left) → Ends (next value left)) → Ends (and_then outcome next)
 ends_after (Ok read) next each = each read.0 read.1
 ends_after (Err fault) next each = record { holds = λ v l is. absurd (cc is) }
 
@@ -270,7 +275,8 @@ unfolding whole end_of_line
 whole-ends left =
     ends_after (fields.kind left) _ (λ kind left. ends_after (of_kind kind left) _ (λ entry left. ends_with entry left.words left.place))
 
-value_is : {A : Type 0} (outcome : Outcome A) (value : A) → value_of outcome ≡ Ok value → (left : Left) × (outcome ≡ Ok (value, left))
+value_is : {A : Type 0} (outcome : Outcome A) (value : A) → value_of outcome ≡ Ok value
+    → (left : Left) × (outcome ≡ Ok (value, left))
 value_is (Ok read) value is = let same : read.0 ≡ value = cc is in (read.1, ap (λ v. Ok (v, read.1)) same)
 value_is (Err fault) value is = absurd (cc is)
 
@@ -281,7 +287,8 @@ same_line line text ws is none =
     sym (append-nil text) ∙ sym behind
 
 -- what a line is read as is in range, and has that line
-pub spelled_line : (line : List ℕ) (entry : Entry) → reading line ≡ Ok entry → (kind_word entry ++ entry_rest entry ≡ line) × IsEntry entry
+pub spelled_line : (line : List ℕ) (entry : Entry) → reading line ≡ Ok entry
+    → (kind_word entry ++ entry_rest entry ≡ line) × IsEntry entry
 unfolding reading
 spelled_line line entry is =
     let start : Left = record { words = words line; place = 0 } in
@@ -297,7 +304,8 @@ pub is_entry : (line : List ℕ) (entry : Entry) → reading line ≡ Ok entry �
 is_entry line entry is = (spelled_line line entry is).1
 
 -- what a call reads of the words of a line is in range
-pub if_entry : (line : List ℕ) (start left : Left) (result : Result Entry EntryFault) → start ≡ record { words = words line; place = 0 } → ReadsInMemory (whole start) result left
+pub if_entry : (line : List ℕ) (start left : Left) (result : Result Entry EntryFault)
+    → start ≡ record { words = words line; place = 0 } → ReadsInMemory (whole start) result left
     → IfOk result IsEntry
 unfolding reading
 if_entry line start left (Ok entry) begins is =

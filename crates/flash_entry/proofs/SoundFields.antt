@@ -1,5 +1,5 @@
 -- The fields of an entry are spelled by their words.
-use Rattle.std.proofs.Common.{◌≡◌, ℕ, Bool, true, false, List, ◌∷◌, Option, None, Some, IfSome, codes, option_map, if◌then◌else◌, refl, sym, ◌∙◌, ap, subst}
+use Rattle.std.proofs.Common.{◌≡◌, ℕ, ℤ, Bool, true, false, List, ◌∷◌, Option, None, Some, IfSome, codes, option_map, if◌then◌else◌, refl, sym, ◌∙◌, ap, subst}
 use Rattle.std.specs.Str.{bytes_eq}
 use Rattle.hex.specs.Hex.{IsBytes}
 use Rattle.flash_entry.specs.declared.entry_fault.EntryFault.TheVariants.{BadWord, BadNumber}
@@ -19,8 +19,11 @@ use Rattle.flash_entry.proofs.Sound.{IsSound, one_word, goes_on, given, at_start
 spaced_word : {w c : List ℕ} → c ≡ w → 32 ∷ c ≡ 32 ∷ w
 spaced_word same = ap (λ (l : List ℕ). 32 ∷ l) same
 
-or_at : {A : Type 0} (text : Option A → List ℕ) (IsIn : A → Type 0) (other w : List ℕ) (test : Bool) (value : Option A) (x : Option A) → bytes_eq w other ≡ test → text None ≡ 32 ∷ other
-    → ((v : A) → value ≡ Some v → (text (Some v) ≡ 32 ∷ w) × IsIn v) → (if test then Some None else option_map (λ v. Some v) value) ≡ Some x → (text x ≡ 32 ∷ w) × IfSome x IsIn
+or_at : {A : Type 0} (text : Option A → List ℕ) (IsIn : A → Type 0) (other w : List ℕ) (test : Bool)
+    (value : Option A) (x : Option A)
+    → bytes_eq w other ≡ test → text None ≡ 32 ∷ other
+    → ((v : A) → value ≡ Some v → (text (Some v) ≡ 32 ∷ w) × IsIn v)
+    → (if test then Some None else option_map (λ v. Some v) value) ≡ Some x → (text x ≡ 32 ∷ w) × IfSome x IsIn
 or_at text IsIn other w true value x at none each is =
     let same : None ≡ x = cc is in
     subst (λ o. (text o ≡ 32 ∷ w) × IfSome o IsIn) same (none ∙ spaced_word (sym (same_bytes w other at)), tt)
@@ -30,9 +33,11 @@ or_at text IsIn other w false (Some v) x at none each is =
     subst (λ o. (text o ≡ 32 ∷ w) × IfSome o IsIn) same (each v refl)
 
 -- a word of its own for nothing
-or-spelled : {A : Type 0} (text : Option A → List ℕ) (IsIn : A → Type 0) (other : List ℕ) (of : List ℕ → Option A) → text None ≡ 32 ∷ other → ((w : List ℕ) (v : A) → of w ≡ Some v → (text (Some v) ≡ 32 ∷ w) × IsIn v)
+or-spelled : {A : Type 0} (text : Option A → List ℕ) (IsIn : A → Type 0) (other : List ℕ) (of : List ℕ → Option A)
+    → text None ≡ 32 ∷ other → ((w : List ℕ) (v : A) → of w ≡ Some v → (text (Some v) ≡ 32 ∷ w) × IsIn v)
     → (w : List ℕ) (x : Option A) → or_word other of w ≡ Some x → (text x ≡ 32 ∷ w) × IfSome x IsIn
-or-spelled text IsIn other of none each w x is = or_at text IsIn other w (bytes_eq w other) (of w) x refl none (each w) is
+or-spelled text IsIn other of none each w x is =
+    or_at text IsIn other w (bytes_eq w other) (of w) x refl none (each w) is
 
 -- a number, or the word for no item
 abbrev pub number_or_none_text : Option ℕ → List ℕ
@@ -44,41 +49,50 @@ abbrev pub narrow_or_here_text : Option ℕ → List ℕ
 narrow_or_here_text None = word (codes "here")
 narrow_or_here_text (Some n) = number n
 
+plain_text : (w : List ℕ) (n : ℕ) → values.plain_number w ≡ Some n → (number n ≡ 32 ∷ w) × IsNumber n
+plain_text w n is = let at = plain-spelled w n is in (spaced_word at.0, at.1)
+
+narrow_text : (w : List ℕ) (n : ℕ) → values.narrow_number w ≡ Some n → (number n ≡ 32 ∷ w) × IsNarrow n
+narrow_text w n is = let at = narrow-spelled w n is in (spaced_word at.0, at.1)
+
+signed_text : (w : List ℕ) (z : ℤ) → values.signed_number w ≡ Some z → (signed z ≡ 32 ∷ w) × IsSigned z
+signed_text w z is = let at = signed-spelled w z is in (spaced_word at.0, at.1)
+
 pub number-sound : IsSound number IsNumber fields.number
 unfolding fields.number
-number-sound = one_word values.plain_number BadNumber (λ w n is. let at = plain-spelled w n is in (spaced_word at.0, at.1))
+number-sound = one_word values.plain_number BadNumber plain_text
 
 pub narrow-sound : IsSound number IsNarrow fields.narrow
 unfolding fields.narrow
-narrow-sound = one_word values.narrow_number BadNumber (λ w n is. let at = narrow-spelled w n is in (spaced_word at.0, at.1))
+narrow-sound = one_word values.narrow_number BadNumber narrow_text
 
 pub signed-sound : IsSound signed IsSigned fields.signed
 unfolding fields.signed
-signed-sound = one_word values.signed_number BadNumber (λ w n is. let at = signed-spelled w n is in (spaced_word at.0, at.1))
+signed-sound = one_word values.signed_number BadNumber signed_text
 
 pub number_if-sound : IsSound number_if (λ o. IfSome o IsNumber) fields.number_if
 unfolding fields.number_if values.optional_number
 number_if-sound =
     one_word values.optional_number BadNumber
-    (or-spelled number_if IsNumber (codes "-") values.plain_number refl (λ w n is. let at = plain-spelled w n is in (spaced_word at.0, at.1)))
+    (or-spelled number_if IsNumber (codes "-") values.plain_number refl plain_text)
 
 pub signed_if-sound : IsSound signed_if (λ o. IfSome o IsSigned) fields.signed_if
 unfolding fields.signed_if values.optional_signed
 signed_if-sound =
     one_word values.optional_signed BadNumber
-    (or-spelled signed_if IsSigned (codes "-") values.signed_number refl (λ w n is. let at = signed-spelled w n is in (spaced_word at.0, at.1)))
+    (or-spelled signed_if IsSigned (codes "-") values.signed_number refl signed_text)
 
 pub number_or_none-sound : IsSound number_or_none_text (λ o. IfSome o IsNumber) fields.number_or_none
 unfolding fields.number_or_none values.number_or_none
 number_or_none-sound =
     one_word values.number_or_none BadNumber
-    (or-spelled number_or_none_text IsNumber (codes "none") values.plain_number refl (λ w n is. let at = plain-spelled w n is in (spaced_word at.0, at.1)))
+    (or-spelled number_or_none_text IsNumber (codes "none") values.plain_number refl plain_text)
 
 pub narrow_or_here-sound : IsSound narrow_or_here_text (λ o. IfSome o IsNarrow) fields.narrow_or_here
 unfolding fields.narrow_or_here values.narrow_or_here
 narrow_or_here-sound =
     one_word values.narrow_or_here BadNumber
-    (or-spelled narrow_or_here_text IsNarrow (codes "here") values.narrow_number refl (λ w n is. let at = narrow-spelled w n is in (spaced_word at.0, at.1)))
+    (or-spelled narrow_or_here_text IsNarrow (codes "here") values.narrow_number refl narrow_text)
 
 pub key-sound : IsSound hexadecimal IsKey fields.key
 unfolding fields.key
@@ -91,7 +105,8 @@ value-sound = one_word values.value_of_digits BadWord value-spelled
 pub bytes_or_failed-sound : IsSound bytes_text (λ o. IfSome o IsBytes) fields.bytes_or_failed
 unfolding fields.bytes_or_failed values.bytes_or_failed
 bytes_or_failed-sound =
-    one_word values.bytes_or_failed BadWord (or-spelled bytes_text IsBytes (codes "failed") values.value_of_digits refl value-spelled)
+    one_word values.bytes_or_failed BadWord
+    (or-spelled bytes_text IsBytes (codes "failed") values.value_of_digits refl value-spelled)
 
 pub kind-sound : IsSound (λ k. word (kind_text k)) (λ _. Unit {0}) fields.kind
 unfolding fields.kind

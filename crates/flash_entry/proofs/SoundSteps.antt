@@ -8,7 +8,7 @@ use Rattle.flash_entry.specs.Text.{word, signed_if}
 use Rattle.flash_entry.specs.EntryText.{mode_word, direction_word, stored_text, summed_text, sum_text, create_text, done_text}
 use Rattle.flash_entry.specs.FixedWords as fixed
 use Rattle.flash_entry.specs.Readings.{Left}
-use Rattle.flash_entry.specs.EntryReading.{stored, stored_of, summed, sum, sum_of, create_of, create_if, store, delete, arith, touch, flush, stats, step_of, step}
+use Rattle.flash_entry.specs.EntryReading.{stored, stored_of, summed, sum, sum_of, create_of, create_if, store, delete, arithmetic, touch, flush, stats, step_of, step}
 use Rattle.flash_entry.specs.IsEntry.{IsSigned, IsCreate, IsStored, IsSummed, IsSum, IsDone}
 use Rattle.flash_entry.proofs.FixedLemmas.{verb_text, refusal-spelled, sum_refusal-spelled}
 use Rattle.flash_entry.proofs.Sound.{Begin, Sound, IsSound, goes_on, given, at_start, begin_as, sound_or, sound_if, next_word-sound}
@@ -53,7 +53,8 @@ sum-sound =
           (begin_as (sym spelled.0) at, spelled.1)))));
     }
 
-create_of-sound : (exptime : Option ℤ) (bytes : List ℕ) (left : Left) → Begin bytes (signed_if exptime) left → IfSome exptime IsSigned
+create_of-sound : (exptime : Option ℤ) (bytes : List ℕ) (left : Left) → Begin bytes (signed_if exptime) left
+    → IfSome exptime IsSigned
     → Sound create_text (λ o. IfSome o IsCreate) bytes (create_of exptime left)
 unfolding create_of
 create_of-sound None bytes left at is_exptime = goes_on dash-sound at (λ _ left at _. given at tt)
@@ -69,7 +70,8 @@ create-sound =
           create_of-sound exptime _ left at is_exptime);
     }
 
-store-sound : (mode : Mode) (bytes : List ℕ) (left : Left) → Begin bytes (word (mode_word mode)) left → Sound done_text IsDone bytes (store mode left)
+store-sound : (mode : Mode) (bytes : List ℕ) (left : Left) → Begin bytes (word (mode_word mode)) left
+    → Sound done_text IsDone bytes (store mode left)
 unfolding store
 store-sound mode bytes left at =
     goes_on key-sound at (λ key left at is_key.
@@ -81,7 +83,8 @@ store-sound mode bytes left at =
     goes_on stored-sound at (λ answer left at is_answer.
     given at (record { key = is_key; flags = is_flags; exptime = is_exptime; compare = is_compare; value = is_value }, is_answer))))))))
 
-delete-sound : (bytes : List ℕ) (left : Left) → Begin bytes (word (codes "delete")) left → Sound done_text IsDone bytes (delete left)
+delete-sound : (bytes : List ℕ) (left : Left) → Begin bytes (word (codes "delete")) left
+    → Sound done_text IsDone bytes (delete left)
 unfolding delete
 delete-sound bytes left at =
     goes_on key-sound at (λ key left at is_key.
@@ -90,9 +93,10 @@ delete-sound bytes left at =
     goes_on gone-sound at (λ answer left at _.
     given at (is_key, is_compare)))))
 
-arith-sound : (down : Bool) (bytes : List ℕ) (left : Left) → Begin bytes (word (direction_word down)) left → Sound done_text IsDone bytes (arith down left)
-unfolding arith
-arith-sound down bytes left at =
+arithmetic-sound : (down : Bool) (bytes : List ℕ) (left : Left) → Begin bytes (word (direction_word down)) left
+    → Sound done_text IsDone bytes (arithmetic down left)
+unfolding arithmetic
+arithmetic-sound down bytes left at =
     goes_on key-sound at (λ key left at is_key.
     goes_on number-sound at (λ delta left at is_delta.
     goes_on number_if-sound at (λ compare left at is_compare.
@@ -102,7 +106,8 @@ arith-sound down bytes left at =
     goes_on sum-sound at (λ answer left at is_answer.
     given at (record { key = is_key; delta = is_delta; compare = is_compare; renew = is_renew; create = is_create }, is_answer))))))))
 
-touch-sound : (bytes : List ℕ) (left : Left) → Begin bytes (word (codes "touch")) left → Sound done_text IsDone bytes (touch left)
+touch-sound : (bytes : List ℕ) (left : Left) → Begin bytes (word (codes "touch")) left
+    → Sound done_text IsDone bytes (touch left)
 unfolding touch
 touch-sound bytes left at =
     goes_on key-sound at (λ key left at is_key.
@@ -111,7 +116,8 @@ touch-sound bytes left at =
     goes_on touched-sound at (λ answer left at _.
     given at (is_key, is_exptime)))))
 
-flush-sound : (bytes : List ℕ) (left : Left) → Begin bytes (word (codes "flush")) left → Sound done_text IsDone bytes (flush left)
+flush-sound : (bytes : List ℕ) (left : Left) → Begin bytes (word (codes "flush")) left
+    → Sound done_text IsDone bytes (flush left)
 unfolding flush
 flush-sound bytes left at =
     goes_on signed-sound at (λ delay left at is_delay.
@@ -119,7 +125,8 @@ flush-sound bytes left at =
     goes_on done-sound at (λ _ left at _.
     given at is_delay)))
 
-stats-sound : (bytes : List ℕ) (left : Left) → Begin bytes (word (codes "stats")) left → Sound done_text IsDone bytes (stats left)
+stats-sound : (bytes : List ℕ) (left : Left) → Begin bytes (word (codes "stats")) left
+    → Sound done_text IsDone bytes (stats left)
 unfolding stats
 stats-sound bytes left at =
     goes_on equality-sound at (λ _ left at _.
@@ -130,11 +137,12 @@ stats-sound bytes left at =
     goes_on number-sound at (λ free_pages left at is_free_pages.
     given at (record { items = is_items; load = is_load; last_cas = is_last_cas; now = is_now; free_pages = is_free_pages })))))))
 
-step_of-sound : (verb : Verb) (bytes : List ℕ) (left : Left) → Begin bytes (word (verb_text verb)) left → Sound done_text IsDone bytes (step_of verb left)
+step_of-sound : (verb : Verb) (bytes : List ℕ) (left : Left) → Begin bytes (word (verb_text verb)) left
+    → Sound done_text IsDone bytes (step_of verb left)
 unfolding step_of
 step_of-sound (verbs.Store mode) bytes left at = store-sound mode bytes left at
 step_of-sound verbs.Delete bytes left at = delete-sound bytes left at
-step_of-sound (verbs.Sum down) bytes left at = arith-sound down bytes left at
+step_of-sound (verbs.Sum down) bytes left at = arithmetic-sound down bytes left at
 step_of-sound verbs.Touch bytes left at = touch-sound bytes left at
 step_of-sound verbs.Flush bytes left at = flush-sound bytes left at
 step_of-sound verbs.Stats bytes left at = stats-sound bytes left at

@@ -5,7 +5,9 @@ use Rattle.flash_names.specs.Words.{words}
 use Rattle.flash_entry.specs.declared.entry_fault.EntryFault.{EntryFault}
 use Rattle.flash_entry.specs.declared.entry_fault.EntryFault.TheVariants.{BadWord}
 use Rattle.flash_entry.specs.declared.ask.Mode.{Mode}
+use Rattle.flash_entry.specs.declared.ask.Put.{Put}
 use Rattle.flash_entry.specs.declared.ask.Create.{Create}
+use Rattle.flash_entry.specs.declared.ask.Arith.{Arith}
 use Rattle.flash_entry.specs.declared.answer.Stored.{Stored}
 use Rattle.flash_entry.specs.declared.answer.Stored.TheVariants as stores
 use Rattle.flash_entry.specs.declared.answer.Summed.{Summed}
@@ -96,7 +98,8 @@ store mode = do
   value ← fields.value
   _ ← fields.equality
   answer ← stored
-  give (deeds.Store (record { key = key; mode = mode; flags = flags; exptime = exptime; compare = compare; value = value }) answer)
+  let put : Put = record { key = key; mode = mode; flags = flags; exptime = exptime; compare = compare; value = value }
+  give (deeds.Store put answer)
 
 -- <key> <compare> = <answer>
 unfoldable pub delete : Reading Done
@@ -108,8 +111,8 @@ delete = do
   give (deeds.Delete key compare answer)
 
 -- <key> <delta> <compare> <renew> <exptime> <start> = <answer>
-unfoldable pub arith : Bool → Reading Done
-arith down = do
+unfoldable pub arithmetic : Bool → Reading Done
+arithmetic down = do
   key ← fields.key
   delta ← fields.number
   compare ← fields.number_if
@@ -117,7 +120,8 @@ arith down = do
   create ← create_if
   _ ← fields.equality
   answer ← sum
-  give (deeds.Sum (record { key = key; down = down; delta = delta; compare = compare; renew = renew; create = create }) answer)
+  let ask : Arith = record { key = key; down = down; delta = delta; compare = compare; renew = renew; create = create }
+  give (deeds.Sum ask answer)
 
 -- <key> <exptime> = <answer>
 unfoldable pub touch : Reading Done
@@ -151,7 +155,7 @@ stats = do
 unfoldable pub step_of : Verb → Reading Done
 step_of (verbs.Store mode) = store mode
 step_of verbs.Delete = delete
-step_of (verbs.Sum down) = arith down
+step_of (verbs.Sum down) = arithmetic down
 step_of verbs.Touch = touch
 step_of verbs.Flush = flush
 step_of verbs.Stats = stats
@@ -163,7 +167,7 @@ step = do
   step_of verb
 
 -- `none`, <CAS number> `here`, or <CAS number> <page> <version>
-unfoldable pub residence_at : ℕ → Option ℕ → Reading Residence
+abbrev pub residence_at : ℕ → Option ℕ → Reading Residence
 residence_at cas None = give (residences.Here cas)
 residence_at cas (Some page) = do
   version ← fields.number

@@ -23,15 +23,19 @@ use Rattle.flash_entry.specs.declared.entry.Close.TheVariants as closes
 use Rattle.flash_entry.specs.declared.entry.Entry.{Entry}
 use Rattle.flash_entry.specs.declared.entry.Entry.TheVariants as entries
 
+-- a number of 64 bits
 abbrev pub IsNumber : ℕ → Type 0
 IsNumber n = n < 2 ^ 64
 
+-- a number of 32 bits
 abbrev pub IsNarrow : ℕ → Type 0
 IsNarrow n = n < 2 ^ 32
 
+-- a signed number of 64 bits
 abbrev pub IsSigned : ℤ → Type 0
 IsSigned n = FitsSigned w64 n
 
+-- 1 to 250 bytes
 pub record IsKey (key : List ℕ) : Type 0 where
   pub bytes : IsBytes key
   pub some : 1 ≤ length key
@@ -109,7 +113,8 @@ IsClose (closes.Lost cause) = Unit {0}
 abbrev pub IsEntry : Entry → Type 0
 IsEntry (entries.Clock moment) = IsNumber moment
 IsEntry (entries.Did id done) = IsId id × IsDone done
-IsEntry (entries.Looked id key look residence) = IsId id × IsKey key × IfSome look.renew IsSigned × IsResidence residence
+IsEntry (entries.Looked id key look residence) =
+    IsId id × IsKey key × IfSome look.renew IsSigned × IsResidence residence
 IsEntry (entries.FromBuffer id place) = IsId id × IsPlace place
 IsEntry (entries.ReadBegan id place reader) = IsId id × IsPlace place × IsNarrow reader
 IsEntry (entries.ReadEnded id bytes) = IsId id × IfSome bytes IsBytes

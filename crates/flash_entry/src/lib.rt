@@ -4,10 +4,12 @@
 //! - `Entry` is what happened to the store. A `Note` is the same, borrowed. `Journal::note` appends up to four of them,
 //!   all or none.
 //! - `Kept` is a journal that keeps its entries and tells them. `Counted` counts them and is always ready.
-//! - `print_entry` gives the line of an entry; `read_head` and `print_head` read and print the line of a geometry.
+//! - `print_entry` gives the line of an entry; `read_entry` reads one, or names the first word that breaks its form
+//!   (`EntryFault`). `read_head` and `print_head` read and print the line of a geometry.
 //!
-//! It is proved what `note` leaves, the text of each kind of entry, the first fault of a geometry line, and that a printed
-//! geometry line is read back.
+//! It is proved what `note` leaves, the text of each kind of entry, the entry or the first fault of each line, that
+//! every entry's line is read back, that what is read of a line has that line, the first fault of a geometry line, and
+//! that a printed geometry line is read back.
 #![tactic(auto)]
 
 mod answer;

@@ -122,7 +122,7 @@ fn looked(words: &mut Cursor<'_>) -> Result<Entry, EntryFault>
     Ok(Entry::Looked(id, key, look, residence(words)?))
 }
 
-#[tactic(auto, unfolding(crate::specs::EntryReading::residence, crate::specs::EntryReading::residence_of, crate::specs::EntryReading::residence_at))]
+#[tactic(auto, unfolding(crate::specs::EntryReading::residence, crate::specs::EntryReading::residence_of))]
 fn residence(words: &mut Cursor<'_>) -> Result<Residence, EntryFault>
     ensures { Reads (forms.residence words.old) result words.new }
 {

@@ -14,7 +14,7 @@ pub fn step(alloc: Global, words: &mut Cursor<'_>) -> Result<Done, EntryFault>
     match words.verb()? {
         Verb::Store(mode) => store(alloc, words, mode),
         Verb::Delete => delete(words),
-        Verb::Sum(down) => arith(words, down),
+        Verb::Sum(down) => arithmetic(words, down),
         Verb::Touch => touch(words),
         Verb::Flush => flush(words),
         Verb::Stats => stats(words),
@@ -58,9 +58,9 @@ fn delete(words: &mut Cursor<'_>) -> Result<Done, EntryFault>
     Ok(Done::Delete(key, compare, words.gone()?))
 }
 
-#[tactic(auto, unfolding(crate::specs::EntryReading::arith))]
-fn arith(words: &mut Cursor<'_>, down: bool) -> Result<Done, EntryFault>
-    ensures { Reads (forms.arith down words.old) result words.new }
+#[tactic(auto, unfolding(crate::specs::EntryReading::arithmetic))]
+fn arithmetic(words: &mut Cursor<'_>, down: bool) -> Result<Done, EntryFault>
+    ensures { Reads (forms.arithmetic down words.old) result words.new }
 {
     let ask = Arith {
         key: words.key()?,

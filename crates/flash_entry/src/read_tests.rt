@@ -110,3 +110,20 @@ fn names_the_first_fault_of_a_line(rt: HostRuntime) {
         );
     }
 }
+
+#[test]
+fn reads_keys_of_250_bytes_and_no_more(rt: HostRuntime) -> Result<(), Fail> {
+    let alloc = rt.alloc();
+    let table = [
+        (500, None),
+        (501, Some(EntryFault::BadWord(2))),
+        (502, Some(EntryFault::BadWord(2))),
+    ];
+    for (digits, fault) in table {
+        let mut line = Vec::from_slice(alloc, b"recached ")?;
+        line.extend_from_slice(&vec![in alloc; b'0'; digits]?)?;
+        line.extend_from_slice(b" 1")?;
+        assert_eq!(rt; read_entry(alloc, &line).err(), fault);
+    }
+    Ok(())
+}

@@ -1,6 +1,7 @@
 pub mod FindingLemmas
 pub mod LawLemmas
 pub mod OpenLemmas
+pub mod OpensNoneLemmas
 pub mod OthersLemmas
 pub mod QueueLemmas
 pub mod SlotsLemmas

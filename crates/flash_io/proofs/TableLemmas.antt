@@ -32,10 +32,10 @@ pub there : (o : Option Row) (P : Row → Type 0) → IsSomeAnd o P → (row : R
 there None P h = absurd h
 there (Some row) P h = (row, refl, h)
 
-keeps_none : (row : Row) → Keeps row None
+pub keeps_none : (row : Row) → Keeps row None
 keeps_none row = record { named = λ new is. absurd (cc); opened = λ new is. absurd (cc) }
 
-keeps_some : (row next : Row) → next.id ≡ row.id → (IsTrue (is_open next.state) → IsTrue (is_open row.state)) → Keeps row (Some next)
+pub keeps_some : (row next : Row) → next.id ≡ row.id → (IsTrue (is_open next.state) → IsTrue (is_open row.state)) → Keeps row (Some next)
 keeps_some row next same opens = record {
   named = λ new is. let e : next ≡ new = cc in ap (λ (r : Row). r.id) (sym e) ∙ same;
   opened = λ new is h. let e : next ≡ new = cc in opens (subst (λ (r : Row). IsTrue (is_open r.state)) (sym e) h);
@@ -57,7 +57,7 @@ goes-with_row change slot s s' xs row sound at k same u =
     let is_all : table_of s' xs ≡ with_row change slot (table_of s xs) = λ i. record { rows = is_rows i; queue = xs } in
     record { is = is_all; sound = subst IsSound (sym is_all) (sound-with_row change slot (table_of s xs) row sound at_table k same) }
 
-queued_open : (state : State) → IsTrue (is_queued state) → IsTrue (is_open state)
+pub queued_open : (state : State) → IsTrue (is_queued state) → IsTrue (is_open state)
 queued_open Queued h = refl
 queued_open (Flying reader awaited) h = absurd (false≢true h)
 queued_open (Done how) h = refl
@@ -89,7 +89,7 @@ goes-loses how slot s s' xs xs' over sound at u e =
     goes-unqueued (λ row. Some (closed how row)) slot s s' xs xs' found.0 sound found.1
     (keeps_some found.0 (closed how found.0) refl (λ h. queued_open found.0.state found.2)) over u e
 
-ended_keeps : (state : State) (row : Row) (b : Bool) → is_forgotten row.state ≡ b → Keeps row (cond b None (Some (closed state row)))
+pub ended_keeps : (state : State) (row : Row) (b : Bool) → is_forgotten row.state ≡ b → Keeps row (cond b None (Some (closed state row)))
 ended_keeps state row true e = keeps_none row
 ended_keeps state row false e = keeps_some row (closed state row) refl (λ h. ap not e)
 
@@ -160,7 +160,7 @@ forgotten_out (Flying reader awaited) h = refl
 forgotten_out (Done how) h = refl
 forgotten_out GivenUp h = refl
 
-dropped_keeps : (row : Row) (b : Bool) → is_flying row.state ≡ b → Keeps row (cond b (Some (forgotten row)) None)
+pub dropped_keeps : (row : Row) (b : Bool) → is_flying row.state ≡ b → Keeps row (cond b (Some (forgotten row)) None)
 dropped_keeps row true e = keeps_some row (forgotten row) refl (forgotten_open row.state e)
 dropped_keeps row false e = keeps_none row
 

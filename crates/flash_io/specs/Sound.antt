@@ -37,6 +37,10 @@ HasNoOpen t id = (slot : ℕ) → HasOpen t id slot → ⊥
 abbrev pub KeepsOpen : TicketTable → TicketTable → Type 0
 KeepsOpen old new = (id : Id) (slot : ℕ) → HasOpen old id slot → HasOpen new id slot
 
+-- no ticket becomes open
+abbrev pub OpensNone : TicketTable → TicketTable → Type 0
+OpensNone old new = (id : Id) (slot : ℕ) → HasOpen new id slot → HasOpen old id slot
+
 -- no ticket of another id becomes open
 abbrev pub OpensOnly : Id → TicketTable → TicketTable → Type 0
 OpensOnly id old new = (other : Id) (slot : ℕ) → other ≢ id → HasOpen new other slot → HasOpen old other slot

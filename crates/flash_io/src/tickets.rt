@@ -5,7 +5,7 @@ ghost use Rattle.flash_io.specs.States.{is_over};
 ghost use Rattle.flash_io.specs.Row.{first_row};
 ghost use Rattle.flash_io.specs.Slots.{has_spare};
 ghost use Rattle.flash_io.specs.TicketTable.{no_tickets, row_of, next_id, queued_with, asked_row};
-ghost use Rattle.flash_io.specs.Sound.{IsSound, HasOpen, HasNoOpen, KeepsOpen, OpensOnly, KeepsOthers, IsOut};
+ghost use Rattle.flash_io.specs.Sound.{IsSound, HasOpen, HasNoOpen, KeepsOpen, OpensNone, OpensOnly, KeepsOthers, IsOut};
 ghost use Rattle.flash_io.specs.Answers.{answer_of, IsAskedOf, IsCopyOf, IsJob};
 
 use crate::row::TicketRow;
@@ -115,6 +115,7 @@ impl Tickets {
         ensures after { self.new ≡ after (flies result.slot reader) self.old }
         ensures out { IsOut self.new result }
         ensures keeps { KeepsOpen self.old self.new }
+        ensures opens { OpensNone self.old self.new }
     {
         let Some(slot) = self.queue.pop_front() else {
             unreachable!()
@@ -130,6 +131,7 @@ impl Tickets {
         ensures after { IfSome result (λ job. self.new ≡ after (flies job.slot reader) self.old) }
         ensures out { IfSome result (IsOut self.new) }
         ensures keeps { KeepsOpen self.old self.new }
+        ensures opens { OpensNone self.old self.new }
         ensures none { IfNone result (self.new ≡ self.old) }
     {
         match queue::take_id(&mut self.queue, &self.rows, id) {
@@ -144,6 +146,7 @@ impl Tickets {
         requires { IsOut self.old job }
         ensures after { self.new ≡ after (ends job.slot (State.Done closed)) self.old }
         ensures keeps { KeepsOpen self.old self.new }
+        ensures opens { OpensNone self.old self.new }
     {
         self.land(job, State::Done(closed));
     }
@@ -154,6 +157,7 @@ impl Tickets {
         requires { IsOut self.old job }
         ensures after { self.new ≡ after (ends job.slot State.GivenUp) self.old }
         ensures keeps { KeepsOpen self.old self.new }
+        ensures opens { OpensNone self.old self.new }
     {
         self.land(job, State::GivenUp);
     }
@@ -163,6 +167,7 @@ impl Tickets {
         requires { IsSome (queued_with self.old id) }
         ensures after { IfSome (queued_with self.old id) (λ slot. self.new ≡ after (loses slot) self.old) }
         ensures keeps { KeepsOpen self.old self.new }
+        ensures opens { OpensNone self.old self.new }
     {
         let Some(slot) = queue::take_id(&mut self.queue, &self.rows, id) else {
             unreachable!()
@@ -195,6 +200,7 @@ impl Tickets {
         ensures whole { IfSome result (IsCopyOf (row_of self.old slot)) }
         ensures after { self.new ≡ after (takes_spare slot) self.old }
         ensures keeps { KeepsOpen self.old self.new }
+        ensures opens { OpensNone self.old self.new }
         ensures out { (job : ReadJob) → IsOut self.old job → IsOut self.new job }
     {
         slots::take_spare(&mut self.rows, slot)
@@ -206,6 +212,7 @@ impl Tickets {
         ensures told { IsSomeAnd (row_of self.old ticket.slot) (λ row. result ≡ answer_of ticket row.state) }
         ensures after { self.new ≡ after (collects ticket.slot) self.old }
         ensures others { KeepsOthers ticket.id self.old self.new }
+        ensures opens { OpensNone self.old self.new }
     {
         slots::collect(&mut self.rows, ticket)
     }
@@ -215,6 +222,7 @@ impl Tickets {
         requires { IsOpenTicket self.old ticket }
         ensures after { self.new ≡ after (forgets ticket.slot) self.old }
         ensures others { KeepsOthers ticket.id self.old self.new }
+        ensures opens { OpensNone self.old self.new }
         ensures out { (job : ReadJob) → IsOut self.old job → IsOut self.new job }
     {
         let Ticket { slot, id: _ } = ticket;
@@ -230,6 +238,7 @@ impl Tickets {
         requires over { IsTrue (is_over state) }
         ensures after { self.new ≡ after (ends job.slot state) self.old }
         ensures keeps { KeepsOpen self.old self.new }
+        ensures opens { OpensNone self.old self.new }
     {
         let ReadJob {
             slot,

@@ -1,6 +1,7 @@
 ghost use Rattle.std.specs.Prelude.{◌≡◌, IfOk};
+ghost use Rattle.flash_items.specs.declared.item.Item.{Item};
 ghost use Rattle.flash_items.specs.Item.{IsSmall};
-ghost use Rattle.flash_items.specs.ItemsState.{HasItem};
+ghost use Rattle.flash_items.specs.ItemsState.{HasItem, IsAt};
 
 use super::*;
 use flash_lru::Segment;
@@ -37,6 +38,7 @@ struct Sample {
 // The item of this key alone.
 fn sample_of(alloc: Global, key: &Key) -> Result<Sample, AllocError>
     ensures there { IfOk result (λ sample. HasItem sample.items sample.id) }
+    ensures named { IfOk result (λ sample. (was : Item) → IsAt sample.items sample.id was → was.key ≡ key.now) }
 {
     let mut items = Items::open(alloc, MEMORY)?;
     items.reserve_one(alloc)?;
@@ -46,11 +48,9 @@ fn sample_of(alloc: Global, key: &Key) -> Result<Sample, AllocError>
 
 // What `replace` gives back where another item takes the place of this key's.
 fn replaced_parts(alloc: Global, key: &Key) -> Result<Parts, AllocError> {
-    let mut items = Items::open(alloc, MEMORY)?;
-    items.reserve_one(alloc)?;
-    let id = items.insert(item_of(alloc, key.copy())?);
+    let mut sample = sample_of(alloc, key)?;
     let other = item_of(alloc, key.copy())?;
-    Ok(items.replace(id, other))
+    Ok(sample.items.replace(sample.id, other))
 }
 
 #[test]

@@ -1,5 +1,5 @@
 -- What `Segments` keeps after a card is put at a segment's front.
-use Rattle.std.proofs.Common.{◌≡◌, ℕ, zero, suc, ◌+◌, ◌-◌, ◌*◌, ◌^◌, ◌<◌, ◌≤◌, Bool, true, false, List, [], ◌∷◌, map, length, refl, sym, ◌∙◌, ap, subst, inl, inr, ◌⊎◌, arith, lit<, lit≤, one-mul, zero-mul}
+use Rattle.std.proofs.Common.{◌≡◌, ℕ, ◌+◌, ◌-◌, ◌*◌, ◌^◌, ◌<◌, Bool, false, List, ◌∷◌, length, refl, sym, ◌∙◌, ap, arith, lit<}
 use Rattle.flash_names.specs.declared.place.ItemId.{ItemId}
 use Rattle.flash_lru.specs.declared.segment.Segment.{Segment}
 use Rattle.flash_lru.specs.declared.segment.Segment.TheVariants.{Hot, Warm, Cold}
@@ -8,9 +8,9 @@ use Rattle.flash_lru.specs.declared.node.Node.{Node}
 use Rattle.flash_lru.specs.declared.node.Home.{Home}
 use Rattle.flash_lru.specs.declared.node.Home.TheVariants.{InHot, InWarm, InCold, Nowhere}
 use Rattle.flash_lru.specs.Card.{idle}
-use Rattle.flash_lru.specs.Lists.{SegmentLists, cards_of, HasCard}
+use Rattle.flash_lru.specs.Lists.{cards_of}
 use Rattle.flash_lru.specs.Moves.{put_front}
-use Rattle.flash_lru.specs.Ring.{node_at, next_of, prev_of, home_of, size_of, card_at, cards_at, walked, lists_at, count_of, weight, in_hot, in_warm, in_cold, home_in, end_of, linked, HasNode, IsRing, Links, IsSound}
+use Rattle.flash_lru.specs.Ring.{node_at, next_of, home_of, size_of, card_at, cards_at, lists_at, count_of, weight, in_hot, in_warm, in_cold, home_in, end_of, linked, IsRing, Links}
 use Rattle.flash_lru.proofs.Nodes.{linked_long, linked_else, linked_there}
 use Rattle.flash_lru.proofs.Cards.{cards_same}
 use Rattle.flash_lru.proofs.Sums.{weight_same}

@@ -1,5 +1,5 @@
 -- Each call that changes the nodes, over what a contract sees.
-use Rattle.std.proofs.Common.{◌≡◌, ℕ, ◌+◌, ◌-◌, ◌*◌, ◌^◌, ◌<◌, ◌≤◌, Bool, true, false, List, [], ◌∷◌, length, set, Option, None, Some, refl, sym, ◌∙◌, ap, subst, inl, inr, ◌⊎◌, ◌↔◌, ltb, IfSome, arith, lit<, lit≤, lt-ltb, le-ltb}
+use Rattle.std.proofs.Common.{◌≡◌, ℕ, ◌+◌, ◌-◌, ◌*◌, ◌^◌, ◌<◌, ◌≤◌, true, false, List, length, set, Option, None, Some, refl, sym, ◌∙◌, ap, subst, inl, inr, ◌↔◌, ltb, IfSome, arith, lit<, lit≤, lt-ltb, le-ltb}
 use Rattle.std.specs.Option.{option_or}
 use Rattle.std.proofs.lemmas.Bool.{cases_lt}
 use Rattle.flash_names.specs.declared.place.ItemId.{ItemId}
@@ -16,9 +16,9 @@ use Rattle.flash_lru.specs.Ends.{last_card, before, before_from}
 use Rattle.flash_lru.specs.Juggle.{bytes, load_of}
 use Rattle.flash_lru.specs.Law.{HasOneAtMost}
 use Rattle.flash_lru.proofs.Sums.{bytes_is}
-use Rattle.flash_lru.specs.Ring.{seen, node_at, prev_of, home_of, size_of, cards_at, card_at, item_of, some_card, is_listed, walked, lists_at, in_hot, in_warm, in_cold, home_in, end_of, end_after, unlinked, linked, count_of, HasNode, IsRing, IsSound}
+use Rattle.flash_lru.specs.Ring.{seen, node_at, prev_of, home_of, size_of, cards_at, card_at, item_of, some_card, is_listed, walked, in_hot, in_warm, in_cold, home_in, end_of, end_after, unlinked, linked, count_of, HasNode, IsRing, IsSound}
 use Rattle.flash_lru.proofs.Rings.{one_home, no_ends_hot, no_ends_warm, no_ends_cold}
-use Rattle.flash_lru.proofs.Sound.{Closed, card_node, inside_of, present_of, cards_by_home, cut_closed, node_in}
+use Rattle.flash_lru.proofs.Sound.{Closed, card_node, inside_of, cards_by_home, cut_closed, node_in}
 use Rattle.flash_lru.proofs.Added.{add_closed, unused_of}
 use Rattle.flash_lru.proofs.Changed.{change_closed, grow_closed}
 use Rattle.flash_lru.proofs.Found.{last_is, before_there, before_absent}

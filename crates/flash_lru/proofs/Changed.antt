@@ -1,16 +1,14 @@
 -- What `Segments` keeps after a card is changed where it is, and after blank nodes are added.
-use Rattle.std.proofs.Common.{◌≡◌, ℕ, zero, suc, ◌+◌, ◌-◌, ◌*◌, ◌^◌, ◌<◌, ◌≤◌, Bool, true, false, List, [], ◌∷◌, map, length, set, refl, sym, ◌∙◌, ap, subst, inl, inr, ◌⊎◌, arith, lit<, lit≤, length-set}
-use Rattle.std.proofs.lemmas.Bool.{cases_eq}
+use Rattle.std.proofs.Common.{◌≡◌, ℕ, ◌+◌, ◌-◌, ◌*◌, ◌^◌, ◌<◌, ◌≤◌, List, [], ◌∷◌, length, set, refl, sym, ◌∙◌, ap, arith, length-set}
 use Rattle.flash_names.specs.declared.place.ItemId.{ItemId}
 use Rattle.flash_lru.specs.declared.card.Card.{Card}
 use Rattle.flash_lru.specs.declared.node.Node.{Node}
 use Rattle.flash_lru.specs.declared.node.Home.{Home}
-use Rattle.flash_lru.specs.Lists.{SegmentLists}
 use Rattle.flash_lru.specs.Moves.{with_change, changed}
-use Rattle.flash_lru.specs.Ring.{node_at, next_of, prev_of, home_of, size_of, card_at, cards_at, walked, lists_at, count_of, weight, in_hot, in_warm, in_cold, IsRing, Links, IsSound}
+use Rattle.flash_lru.specs.Ring.{node_at, home_of, size_of, card_at, cards_at, lists_at, count_of, weight, in_hot, in_warm, in_cold, IsRing, Links}
 use Rattle.flash_lru.proofs.Nodes.{node_at_same, node_at_other, field_kept, bound_kept}
-use Rattle.flash_lru.proofs.Cards.{NoEnds, cards_changed, cards_same}
-use Rattle.flash_lru.proofs.Sums.{weight_changed, weight_same}
+use Rattle.flash_lru.proofs.Cards.{NoEnds, cards_changed}
+use Rattle.flash_lru.proofs.Sums.{weight_changed}
 use Rattle.flash_lru.proofs.Rings.{no_ends_hot, no_ends_warm, no_ends_cold}
 use Rattle.flash_lru.proofs.Joins.{ring_same}
 use Rattle.flash_lru.proofs.Sound.{Closed, closed_of, same_lists_of}

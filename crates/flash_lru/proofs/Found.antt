@@ -1,14 +1,12 @@
 -- The last card of a list, and the one before another, by their links.
-use Rattle.std.proofs.Common.{◌≡◌, ℕ, zero, suc, ◌+◌, ◌-◌, ◌<◌, ◌≤◌, Bool, true, false, cond, eqb, ltb, List, [], ◌∷◌, map, length, Option, None, Some, option_map, refl, sym, ◌∙◌, ap, subst, inl, inr, ◌⊎◌, arith, lit<, lt-ltb, le-ltb}
+use Rattle.std.proofs.Common.{◌≡◌, ℕ, ◌+◌, ◌-◌, ◌<◌, ◌≤◌, true, false, cond, eqb, ltb, List, [], ◌∷◌, Option, None, Some, refl, sym, ◌∙◌, ap, inl, inr, arith, lt-ltb, le-ltb}
 use Rattle.std.specs.List.{last_or}
-use Rattle.std.specs.Option.{option_or}
-use Rattle.std.proofs.lemmas.Bool.{cases_eq, cases_lt}
+use Rattle.std.proofs.lemmas.Bool.{cases_eq}
 use Rattle.flash_names.specs.declared.place.ItemId.{ItemId}
-use Rattle.flash_lru.specs.declared.card.Card.{Card}
 use Rattle.flash_lru.specs.declared.node.Node.{Node}
 use Rattle.flash_lru.specs.Ends.{last_card, before_from}
 use Rattle.flash_lru.specs.Ring.{next_of, prev_of, card_at, cards_at, item_of, some_card, count_of, Path}
-use Rattle.flash_lru.proofs.Lists.{count_here, count_else, count_none}
+use Rattle.flash_lru.proofs.Lists.{count_else, count_none}
 use Rattle.flash_lru.proofs.Cards.{NoEnds, first_above, rest_above, card_here, card_else}
 
 some_card_of : (nodes : List Node) (y : ℕ) → 3 ≤ y → some_card nodes y ≡ Some (card_at nodes y)

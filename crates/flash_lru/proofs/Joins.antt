@@ -1,12 +1,12 @@
 -- The ring after a number is put at a list's front, and after a number's node is changed without its links.
-use Rattle.std.proofs.Common.{◌≡◌, ℕ, zero, suc, ◌+◌, ◌-◌, ◌^◌, ◌<◌, ◌≤◌, Bool, true, false, List, [], ◌∷◌, length, refl, sym, ◌∙◌, ap, subst, inl, inr, ◌⊎◌, arith, lit<, lit≤}
-use Rattle.std.proofs.lemmas.Bool.{cases_eq, cases_lt}
+use Rattle.std.proofs.Common.{◌≡◌, ℕ, ◌^◌, ◌<◌, ◌≤◌, List, ◌∷◌, length, refl, sym, ◌∙◌, ap, subst, inl, inr, arith, lit<}
+use Rattle.std.proofs.lemmas.Bool.{cases_eq}
 use Rattle.flash_lru.specs.declared.segment.Segment.{Segment}
 use Rattle.flash_lru.specs.declared.segment.Segment.TheVariants.{Hot, Warm, Cold}
 use Rattle.flash_lru.specs.declared.node.Node.{Node}
 use Rattle.flash_lru.specs.declared.node.Home.{Home}
 use Rattle.flash_lru.specs.declared.node.Home.TheVariants.{InHot, InWarm, InCold, Nowhere}
-use Rattle.flash_lru.specs.Ring.{blank, node_at, next_of, prev_of, home_of, size_of, linked, count_of, Path, in_hot, in_warm, in_cold, home_in, end_of, IsRing}
+use Rattle.flash_lru.specs.Ring.{next_of, prev_of, home_of, size_of, linked, count_of, Path, in_hot, in_warm, in_cold, home_in, end_of, IsRing}
 use Rattle.flash_lru.proofs.Paths.{Joint, kept_path, joint_path, head_back, first_other, path_same}
 use Rattle.flash_lru.proofs.Nodes.{linked_long, linked_else, linked_there, linked_joint, linked_bound}
 use Rattle.flash_lru.proofs.Rings.{no_ends_hot, no_ends_warm, no_ends_cold, count_aside, count_front, ends_kept}

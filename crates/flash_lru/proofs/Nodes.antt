@@ -1,11 +1,10 @@
 -- The nodes after a number is unlinked, and after one is linked in.
-use Rattle.std.proofs.Common.{◌≡◌, ℕ, zero, suc, ◌+◌, ◌-◌, ◌^◌, ◌<◌, ◌≤◌, Bool, true, false, List, [], ◌∷◌, length, get_or, set, refl, sym, ◌∙◌, ap, subst, inl, inr, ◌⊎◌, arith, lit<, length-set}
+use Rattle.std.proofs.Common.{◌≡◌, ℕ, ◌<◌, false, List, length, set, refl, sym, ◌∙◌, ap, subst, inl, inr, arith, length-set}
 use Rattle.std.proofs.lemmas.Bool.{cases_eq}
 use Rattle.std.proofs.lemmas.List.{get_or-set_same, get_or-set_other}
 use Rattle.flash_lru.specs.declared.node.Node.{Node}
 use Rattle.flash_lru.specs.declared.node.Home.{Home}
-use Rattle.flash_lru.specs.declared.node.Home.TheVariants.{Nowhere}
-use Rattle.flash_lru.specs.Ring.{blank, node_at, next_of, prev_of, home_of, size_of, with_next, with_prev, unlinked, linked, unused}
+use Rattle.flash_lru.specs.Ring.{blank, node_at, next_of, prev_of, with_next, with_prev, unlinked, linked, unused}
 use Rattle.flash_lru.proofs.Paths.{IsLinked, Cut, Joint}
 
 pub node_at_same : (nodes : List Node) (x : ℕ) (node : Node) → x < length nodes → node_at (set nodes x node) x ≡ node

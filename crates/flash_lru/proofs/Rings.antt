@@ -1,14 +1,14 @@
 -- The ring after a number is taken away, and after one is put at a list's front.
-use Rattle.std.proofs.Common.{◌≡◌, ℕ, zero, suc, ◌+◌, ◌-◌, ◌^◌, ◌<◌, ◌≤◌, Bool, true, false, List, [], ◌∷◌, ◌++◌, length, refl, sym, ◌∙◌, ap, subst, inl, inr, ◌⊎◌, arith, lit<, lit≤}
+use Rattle.std.proofs.Common.{◌≡◌, ℕ, ◌+◌, ◌^◌, ◌<◌, ◌≤◌, List, ◌∷◌, ◌++◌, length, refl, sym, ◌∙◌, ap, subst, inl, inr, arith, lit<, lit≤}
 use Rattle.std.proofs.lemmas.Bool.{cases_eq, cases_lt}
 use Rattle.std.proofs.lemmas.List.{get_or_past}
 use Rattle.flash_lru.specs.declared.node.Node.{Node}
 use Rattle.flash_lru.specs.declared.node.Home.{Home}
 use Rattle.flash_lru.specs.declared.node.Home.TheVariants.{InHot, InWarm, InCold, Nowhere}
-use Rattle.flash_lru.specs.Ring.{blank, node_at, next_of, prev_of, home_of, size_of, unlinked, linked, count_of, Path, walk, walked, in_hot, in_warm, in_cold, IsRing}
+use Rattle.flash_lru.specs.Ring.{blank, next_of, prev_of, home_of, size_of, unlinked, count_of, walked, in_hot, in_warm, in_cold, IsRing}
 use Rattle.flash_lru.proofs.Lists.{count_append, other_than, count_here, count_else, count_other, count_other_same, length_below}
-use Rattle.flash_lru.proofs.Paths.{IsLinked, linked_in, cut_path, Joint, kept_path, joint_path, walk_is}
-use Rattle.flash_lru.proofs.Nodes.{unlinked_long, unlinked_else, unlinked_there, unlinked_cut, unlinked_bound, linked_long, linked_else, linked_there, linked_joint, linked_bound}
+use Rattle.flash_lru.proofs.Paths.{IsLinked, linked_in, cut_path, walk_is}
+use Rattle.flash_lru.proofs.Nodes.{unlinked_long, unlinked_else, unlinked_there, unlinked_cut, unlinked_bound}
 use Rattle.flash_lru.proofs.Cards.{NoEnds}
 
 in_hot_small : (h : Home) → in_hot h ≤ 1

@@ -1,23 +1,17 @@
 -- What `Segments` keeps, and what a contract sees of it, after each change of the nodes.
-use Rattle.std.proofs.Common.{◌≡◌, ℕ, zero, suc, ◌+◌, ◌-◌, ◌*◌, ◌^◌, ◌<◌, ◌≤◌, Bool, true, false, List, [], ◌∷◌, ◌++◌, map, length, refl, sym, ◌∙◌, ap, subst, inl, inr, ◌⊎◌, arith, lit<, lit≤, mul-le-mul_right}
-use Rattle.std.proofs.lemmas.Bool.{cases_eq, cases_lt}
+use Rattle.std.proofs.Common.{◌≡◌, ℕ, ◌+◌, ◌-◌, ◌*◌, ◌^◌, ◌<◌, ◌≤◌, List, ◌++◌, length, refl, sym, ◌∙◌, ap, subst, arith, mul-le-mul_right}
 use Rattle.flash_names.specs.declared.place.ItemId.{ItemId}
-use Rattle.flash_lru.specs.declared.segment.Segment.{Segment}
-use Rattle.flash_lru.specs.declared.segment.Segment.TheVariants.{Hot, Warm, Cold}
 use Rattle.flash_lru.specs.declared.card.Card.{Card}
 use Rattle.flash_lru.specs.declared.node.Node.{Node}
 use Rattle.flash_lru.specs.declared.node.Home.{Home}
-use Rattle.flash_lru.specs.declared.node.Home.TheVariants.{InHot, InWarm, InCold, Nowhere}
-use Rattle.flash_lru.specs.Card.{is_of, idle}
 use Rattle.flash_lru.specs.Lists.{SegmentLists, cards_of, HasCard}
-use Rattle.flash_lru.specs.Moves.{removed, put_front, without}
-use Rattle.flash_lru.specs.Ring.{node_at, next_of, prev_of, home_of, size_of, card_at, cards_at, walked, lists_at, count_of, weight, in_hot, in_warm, in_cold, home_in, end_of, unlinked, linked, HasNode, IsRing, Links, IsSound}
+use Rattle.flash_lru.specs.Moves.{removed, without}
+use Rattle.flash_lru.specs.Ring.{node_at, next_of, prev_of, home_of, size_of, card_at, cards_at, walked, lists_at, count_of, weight, in_hot, in_warm, in_cold, unlinked, HasNode, IsRing, Links, IsSound}
 use Rattle.flash_lru.proofs.Lists.{other_than, count_other_same}
-use Rattle.flash_lru.proofs.Nodes.{unlinked_long, unlinked_else, linked_long, linked_else, linked_there}
-use Rattle.flash_lru.proofs.Cards.{cards_other, count_cards, cards_same, cards_changed}
+use Rattle.flash_lru.proofs.Nodes.{unlinked_long, unlinked_else}
+use Rattle.flash_lru.proofs.Cards.{cards_other, count_cards, cards_same}
 use Rattle.flash_lru.proofs.Sums.{weight_append, weight_same, weight_other, weight_below}
 use Rattle.flash_lru.proofs.Rings.{IsPresent, no_ends_hot, no_ends_warm, no_ends_cold, stored, long_all, walk_hot, walk_warm, walk_cold, counts, ring_cut}
-use Rattle.flash_lru.proofs.Joins.{into_hot, into_warm, into_cold, ring_join, ring_same}
 
 -- what a contract sees, by the lists that the nodes link
 pub view_of : (nodes : List Node) (memory : ℕ) (hot warm cold : List ℕ) → IsRing nodes hot warm cold → lists_at nodes memory (walked nodes 0) (walked nodes 1) (walked nodes 2) ≡ lists_at nodes memory hot warm cold

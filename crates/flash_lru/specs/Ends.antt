@@ -1,5 +1,5 @@
 -- Which cards are last, and which is before another.
-use Rattle.std.specs.Prelude.{Bool, List, [], ◌∷◌, Option, None, Some, option_map, if◌then◌else◌}
+use Rattle.std.specs.Prelude.{List, [], ◌∷◌, Option, None, Some, option_map, if◌then◌else◌}
 use Rattle.std.specs.List.{last_or}
 use Rattle.std.specs.Option.{option_or}
 use Rattle.flash_names.specs.declared.place.ItemId.{ItemId}

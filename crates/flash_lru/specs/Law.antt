@@ -1,5 +1,5 @@
 -- What is true of the three lists at all times.
-use Rattle.std.specs.Prelude.{ℕ, ◌<◌, ◌≤◌, ◌^◌, length}
+use Rattle.std.specs.Prelude.{◌<◌, ◌≤◌}
 use Rattle.flash_names.specs.declared.place.ItemId.{ItemId}
 use Rattle.flash_lru.specs.Lists.{SegmentLists, cards_of, HasCard}
 

@@ -1,5 +1,5 @@
 -- What the calls make of the three lists.
-use Rattle.std.specs.Prelude.{ℕ, Bool, true, not, List, ◌∷◌, map, filter, if◌then◌else◌}
+use Rattle.std.specs.Prelude.{ℕ, true, not, List, ◌∷◌, map, filter, if◌then◌else◌}
 use Rattle.flash_names.specs.declared.place.ItemId.{ItemId}
 use Rattle.flash_lru.specs.declared.segment.Segment.{Segment}
 use Rattle.flash_lru.specs.declared.segment.Segment.TheVariants.{Hot, Warm, Cold}

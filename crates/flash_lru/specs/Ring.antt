@@ -1,5 +1,5 @@
 -- How `Segments` lays out its lists. No public clause cites this module.
-use Rattle.std.specs.Prelude.{◌≡◌, ℕ, zero, suc, ◌+◌, ◌-◌, ◌^◌, ◌<◌, ◌≤◌, Bool, true, false, not, nat_eq, nat_lt, List, [], ◌∷◌, map, length, filter, slice_index_or, slice_set, Option, None, Some, if◌then◌else◌}
+use Rattle.std.specs.Prelude.{◌≡◌, ℕ, zero, suc, ◌+◌, ◌-◌, ◌^◌, ◌<◌, ◌≤◌, Bool, true, false, nat_eq, nat_lt, List, [], ◌∷◌, map, length, slice_index_or, slice_set, Option, None, Some, if◌then◌else◌}
 use Rattle.flash_names.specs.declared.place.ItemId.{ItemId}
 use Rattle.flash_lru.specs.declared.segment.Segment.{Segment}
 use Rattle.flash_lru.specs.declared.segment.Segment.TheVariants.{Hot, Warm, Cold}

@@ -5,6 +5,7 @@ use Rattle.flash_names.specs.declared.place.Id.{Id}
 use Rattle.flash_names.specs.declared.place.Place.{Place}
 use Rattle.flash_entry.specs.declared.entry.Entry.{Entry}
 use Rattle.flash_entry.specs.declared.entry.Entry.TheVariants as entries
+use Rattle.flash_machine.specs.EachFrom.{EachFrom}
 use Rattle.flash_machine.specs.Places.{has_byte}
 use Rattle.flash_machine.specs.Written.{written}
 
@@ -34,8 +35,7 @@ IsHonestEntry journal _ = Unit {0}
 
 -- each of these entries is honest after those before it
 abbrev pub HonestFrom : List Entry → List Entry → Type 0
-HonestFrom journal [] = Unit {0}
-HonestFrom journal (e ∷ es) = IsHonestEntry journal e × HonestFrom (journal ++ e ∷ []) es
+HonestFrom journal es = EachFrom IsHonestEntry journal es
 
 -- each good end of a read gives what was written
 abbrev pub Honest : List Entry → Type 0

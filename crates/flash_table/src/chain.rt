@@ -37,12 +37,14 @@ impl Chain {
         }
     }
 
-    // Adds an empty group at the end, or answers that there is no memory for it, and then nothing changes.
+    // Adds an empty group at the end, or answers that there is no memory for it, and then nothing changes. It takes
+    // memory for this group alone: most chains have one or two.
     pub fn add_group(&mut self) -> Result<(), AllocError>
         ensures added { OnOk result (self.new ≡ self.old ++ vacants 16) }
         ensures refused { OnErr result (self.new ≡ self.old) }
     {
-        self.groups.push(Group::empty())?;
+        self.groups.reserve_exact(1)?;
+        self.groups.push_reserved(Group::empty());
         Ok(())
     }
 

@@ -1,4 +1,4 @@
-ghost use Rattle.std.specs.Prelude.{◌≡◌, ◌≢◌, ◌+◌, ◌<◌, ◌≤◌, ◌^◌, ℕ, OnOk, OnErr, IfOk, Some, None, IsSome, IfSome, IfNone, List};
+ghost use Rattle.std.specs.Prelude.{◌≡◌, ◌+◌, ◌<◌, ◌≤◌, ◌^◌, ℕ, OnOk, OnErr, IfOk, IsOk, Some, None, IsSome, IfSome, IfNone, List};
 ghost use Rattle.std.specs.Option.{option_map};
 ghost use Rattle.std.specs.FinMap as finite;
 ghost use Rattle.flash_table.specs.AtHome.{HasKeysAtHome, SameSlots, DividesOne};
@@ -77,10 +77,11 @@ impl Table {
 
     /// Takes the memory for one key more of any length, and adds a home where the keys are at least 14 times
     /// the homes, up to 2^32 - 1 homes. Only keys of the home that is divided move to it. Where it is out of memory,
-    /// the keys, the homes and the slots are as before.
+    /// the keys, the homes and the slots are as before. Where there is room already and no home is due, it is `Ok`.
     pub fn reserve_one(&mut self, alloc: Global) -> Result<(), AllocError>
         ensures spare { OnOk result (self.new.spare ≡ 1) }
         ensures homes { OnOk result (self.new.homes ≡ homes_after self.old) }
+        ensures has_room { 1 ≤ self.old.spare → homes_after self.old ≡ self.old.homes → IsOk result }
         ensures refused { OnErr result (self.new.homes ≡ self.old.homes) }
         ensures slots { DividesOne self.old self.new }
         ensures kept_spare { self.old.spare ≤ self.new.spare }
@@ -94,6 +95,7 @@ impl Table {
     // Takes the memory for one key more.
     fn make_ready(&mut self) -> Result<(), AllocError>
         ensures spare { OnOk result (self.new.spare ≡ 1) }
+        ensures has_room { 1 ≤ self.old.spare → IsOk result }
         ensures kept_spare { self.old.spare ≤ self.new.spare }
         ensures slots { SameSlots self.old self.new }
         ensures homes { self.new.homes ≡ self.old.homes }
@@ -116,6 +118,7 @@ impl Table {
     fn grow_where_full(&mut self, alloc: Global) -> Result<(), AllocError>
         requires { 1 ≤ self.old.spare }
         ensures homes { OnOk result (self.new.homes ≡ homes_after self.old) }
+        ensures has_room { homes_after self.old ≡ self.old.homes → IsOk result }
         ensures refused { OnErr result (self.new.homes ≡ self.old.homes) }
         ensures slots { DividesOne self.old self.new }
         ensures spare { self.new.spare ≡ self.old.spare }

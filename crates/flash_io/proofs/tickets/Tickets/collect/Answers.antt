@@ -1,10 +1,12 @@
-use Rattle.std.proofs.Common.{◌≡◌, ap, ◌∙◌, refl}
+use Rattle.std.proofs.Common.{◌≡◌, ap, ◌∙◌, sym, subst, refl}
+use Rattle.std.specs.Prelude.{IsSome}
 use Rattle.flash_io.specs.Slots.{is_over_row}
 use Rattle.flash_io.specs.TicketTable.{TicketTable, table_of, row_of}
 use Rattle.flash_io.specs.Answers.{answer_of}
 use Rattle.flash_io.specs.Calls.{after, collects}
 use Rattle.flash_io.proofs.TableLemmas.{Goes, goes-collect, to_view, open_there}
 use Rattle.flash_io.proofs.OthersLemmas.{others-collects}
+use Rattle.flash_io.proofs.OpensNoneLemmas.{opens-collects}
 use Rattle.flash_io.proofs.tickets.Tickets.collect.Goals as goal
 
 pub collect-requires : goal.collect-requires
@@ -26,3 +28,6 @@ returns-clause-after c = (taken c).is ∙ ap (λ (t : TicketTable). after (colle
 
 pub returns-clause-others : goal.returns-clause-others
 returns-clause-others c = others-collects c.args.ticket.id c.args.ticket.slot c.args.self.now _ (is_over_row (row_of c.args.self.now c.args.ticket.slot)) (returns-clause-after c) c.requires
+
+pub returns-clause-opens : goal.returns-clause-opens
+returns-clause-opens c = opens-collects c.args.ticket.slot c.args.self.now _ (is_over_row (row_of c.args.self.now c.args.ticket.slot)) (returns-clause-after c) (subst IsSome (sym c.requires.there) refl)

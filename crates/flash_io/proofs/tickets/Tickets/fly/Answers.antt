@@ -1,10 +1,13 @@
 use Rattle.std.proofs.Common.{sym, ap, ◌∙◌, ℕ}
-use Rattle.flash_io.specs.TicketTable.{TicketTable, table_of}
+use Rattle.std.specs.Prelude.{IsTrue, IsSomeAnd}
+use Rattle.flash_io.specs.States.{is_queued}
+use Rattle.flash_io.specs.TicketTable.{TicketTable, table_of, row_of}
 use Rattle.flash_io.specs.Answers.{IsJob}
 use Rattle.flash_io.specs.Calls.{after, flies}
 use Rattle.flash_io.proofs.QueueLemmas.{popped, count-popped}
 use Rattle.flash_io.proofs.TableLemmas.{Goes, goes-flies, to_view, queued-slab, some_of}
 use Rattle.flash_io.proofs.OpenLemmas.{keeps-flies, out-flies}
+use Rattle.flash_io.proofs.OpensNoneLemmas.{opens-flies}
 use Rattle.flash_io.proofs.tickets.Tickets.fly.Goals as goal
 
 pub fly-requires : goal.fly-requires
@@ -33,3 +36,11 @@ returns-clause-out c = out-flies c.args.reader c.args.self.now _ c.fly.result (r
 
 pub returns-clause-keeps : goal.returns-clause-keeps
 returns-clause-keeps c = keeps-flies c.fly.result.slot c.args.reader c.args.self.now _ (returns-clause-after c) (some_of _ (IsJob c.fly.result) (returns-clause-job c))
+
+was_queued : (c : goal.After-fly) → IsSomeAnd (row_of c.args.self.now c.fly.result.slot) (λ row. IsTrue (is_queued row.state))
+was_queued c =
+    to_view c.self.inside.rows c.self.inside.queue.items c.args.self.now c.in-Some.slot c.fly.result.slot (λ row. IsTrue (is_queued row.state)) c.self.view_is c.fly.ensures.slot
+    (queued-slab c.self.inside.rows c.self.inside.queue.items c.in-Some.slot c.self.invariant (count-popped _ _ c.pop_front.result c.in-Some.slot c.pop_front.ensures.items c.in-Some.is))
+
+pub returns-clause-opens : goal.returns-clause-opens
+returns-clause-opens c = opens-flies c.fly.result.slot c.args.reader c.args.self.now _ (returns-clause-after c) (was_queued c)

@@ -5,6 +5,7 @@ use Rattle.flash_io.specs.Calls.{after, forgets}
 use Rattle.flash_io.proofs.TableLemmas.{Goes, goes-forgets, left-forgotten, open_there}
 use Rattle.flash_io.proofs.OpenLemmas.{out-forgets}
 use Rattle.flash_io.proofs.OthersLemmas.{others-forgets}
+use Rattle.flash_io.proofs.OpensNoneLemmas.{opens-forgets}
 use Rattle.flash_io.proofs.tickets.Tickets.forget.Goals as goal
 
 pub index-row-requires : goal.index-row-requires
@@ -28,3 +29,6 @@ returns-clause-out c = out-forgets c.args.ticket.slot c.args.self.now _ (returns
 
 pub returns-clause-others : goal.returns-clause-others
 returns-clause-others c = others-forgets c.args.ticket.id c.args.ticket.slot c.args.self.now _ (returns-clause-after c) c.requires
+
+pub returns-clause-opens : goal.returns-clause-opens
+returns-clause-opens c = opens-forgets c.args.ticket.slot c.args.self.now _ (returns-clause-after c) (subst IsSome (sym c.requires.there) refl)

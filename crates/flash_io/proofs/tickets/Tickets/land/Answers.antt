@@ -6,6 +6,7 @@ use Rattle.flash_io.specs.Answers.{IsFlyingAs}
 use Rattle.flash_io.specs.Calls.{after, ends}
 use Rattle.flash_io.proofs.TableLemmas.{Goes, over_closed, goes-ends, from_view, some_of, and_weaker}
 use Rattle.flash_io.proofs.OpenLemmas.{keeps-ends}
+use Rattle.flash_io.proofs.OpensNoneLemmas.{opens-ends}
 use Rattle.flash_io.proofs.tickets.Tickets.land.Goals as goal
 
 pub land-requires-clause-there : goal.land-requires-clause-there
@@ -28,3 +29,6 @@ land-requires-clause-state c = over_closed c.args.state c.requires.over
 
 pub returns-clause-keeps : goal.returns-clause-keeps
 returns-clause-keeps c = keeps-ends c.args.job.slot c.args.state c.args.self.now _ (returns-clause-after c) c.requires.over (some_of _ (IsFlyingAs c.args.job) c.requires.out)
+
+pub returns-clause-opens : goal.returns-clause-opens
+returns-clause-opens c = opens-ends c.args.job.slot c.args.state c.args.self.now _ (returns-clause-after c) (some_of _ (IsFlyingAs c.args.job) c.requires.out)

@@ -7,6 +7,7 @@ use Rattle.flash_io.specs.TicketTable.{TicketTable, table_of, row_of}
 use Rattle.flash_io.specs.Calls.{after, takes_spare}
 use Rattle.flash_io.proofs.TableLemmas.{Goes, goes-take_spare, row_of-view}
 use Rattle.flash_io.proofs.OpenLemmas.{keeps-takes, out-takes}
+use Rattle.flash_io.proofs.OpensNoneLemmas.{opens-takes}
 use Rattle.flash_io.proofs.tickets.Tickets.take_spare.Goals as goal
 
 taken : (c : goal.After-take_spare) → Goes (after (takes_spare c.args.slot) (table_of c.self.inside.rows c.self.inside.queue.items)) (table_of c.take_spare.new.rows c.self.inside.queue.items)
@@ -33,3 +34,6 @@ returns-clause-keeps c = keeps-takes c.args.slot c.args.self.now _ (has_spare (r
 
 pub returns-clause-out : goal.returns-clause-out
 returns-clause-out c = out-takes c.args.slot c.args.self.now _ (has_spare (row_of c.args.self.now c.args.slot)) refl (returns-clause-after c)
+
+pub returns-clause-opens : goal.returns-clause-opens
+returns-clause-opens c = opens-takes c.args.slot c.args.self.now _ (has_spare (row_of c.args.self.now c.args.slot)) refl (returns-clause-after c)

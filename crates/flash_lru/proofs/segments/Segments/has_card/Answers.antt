@@ -1,4 +1,4 @@
-use Rattle.std.proofs.Common.{◌∙◌, ap, sym, true}
+use Rattle.std.proofs.Common.{◌∙◌, ap, sym}
 use Rattle.flash_lru.specs.declared.node.Node.{Node}
 use Rattle.flash_lru.specs.Ring.{is_listed}
 use Rattle.flash_lru.proofs.Calls.{room_node, there_card}

@@ -1,4 +1,4 @@
-use Rattle.std.proofs.Common.{◌≡◌, ◌∙◌, ap, sym, subst, IfSome, Option, ◌<◌, ◌≤◌, ℕ, length}
+use Rattle.std.proofs.Common.{◌∙◌, ap, sym, subst, IfSome, Option, ◌<◌, ◌≤◌, ℕ, length}
 use Rattle.flash_lru.specs.declared.card.Card.{Card}
 use Rattle.flash_lru.specs.Ring.{some_card}
 use Rattle.flash_lru.proofs.Calls.{last_read, last_inside, card_room}

@@ -1,4 +1,4 @@
-use Rattle.std.proofs.Common.{◌+◌, sym, arith}
+use Rattle.std.proofs.Common.{sym, arith}
 use Rattle.flash_lru.proofs.Sound.{room}
 use Rattle.flash_lru.proofs.Calls.{load_read}
 use Rattle.flash_lru.proofs.segments.Segments.load.Goals as goal

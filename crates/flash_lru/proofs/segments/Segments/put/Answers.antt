@@ -1,6 +1,6 @@
-use Rattle.std.proofs.Common.{◌≡◌, ◌∙◌, ap, sym, subst, false}
+use Rattle.std.proofs.Common.{◌≡◌, ◌∙◌, ap, sym}
 use Rattle.std.proofs.lemmas.Bool.{both_ways}
-use Rattle.flash_lru.specs.Lists.{SegmentLists, cards_of}
+use Rattle.flash_lru.specs.Lists.{cards_of}
 use Rattle.flash_lru.specs.Card.{idle}
 use Rattle.flash_lru.specs.Moves.{removed, put_front}
 use Rattle.flash_lru.proofs.Gone.{removed_none, removed_same}

@@ -1,4 +1,4 @@
-use Rattle.std.proofs.Common.{◌≡◌, ◌+◌, ◌*◌, ◌∙◌, ap, arith}
+use Rattle.std.proofs.Common.{◌+◌, ◌*◌, ◌∙◌, ap, arith}
 use Rattle.flash_lru.specs.declared.node.Home.{Home}
 use Rattle.flash_lru.specs.Card.{idle}
 use Rattle.flash_lru.specs.Moves.{put_front}

@@ -1,4 +1,4 @@
-use Rattle.std.proofs.Common.{◌≡◌, ◌+◌, ◌*◌, ◌-◌, arith, ap, ◌∙◌}
+use Rattle.std.proofs.Common.{◌+◌, ◌*◌, ◌-◌, arith, ap, ◌∙◌}
 use Rattle.flash_lru.specs.declared.node.Node.{Node}
 use Rattle.flash_lru.specs.Moves.{removed}
 use Rattle.flash_lru.specs.Ring.{in_hot, in_warm, in_cold, unlinked}

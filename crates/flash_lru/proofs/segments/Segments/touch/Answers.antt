@@ -1,5 +1,3 @@
-use Rattle.std.proofs.Common.{◌≡◌, ℕ, ◌+◌, ap, subst, sym, true}
-use Rattle.flash_lru.specs.declared.node.Node.{Node}
 use Rattle.flash_lru.proofs.Calls.{has_node, touches}
 use Rattle.flash_lru.proofs.segments.Segments.touch.Goals as goal
 

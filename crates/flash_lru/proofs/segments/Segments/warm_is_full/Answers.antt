@@ -1,4 +1,4 @@
-use Rattle.std.proofs.Common.{◌≡◌, ℕ, ◌*◌, ◌/◌, ◌∙◌, ap, sym, ltb}
+use Rattle.std.proofs.Common.{ℕ, ◌*◌, ◌/◌, ◌∙◌, ap, sym, ltb}
 use Rattle.flash_lru.proofs.Calls.{warm_bytes_read, memory_read}
 use Rattle.flash_lru.proofs.segments.Segments.warm_is_full.Goals as goal
 
