@@ -48,7 +48,10 @@ fn check_entries(alloc: Global, geometry: Geometry, bytes: &[u8]) -> Result<Chec
         };
         match check_line(alloc, &mut machine, line)? {
             Some(Verdict::Legal) => {}
-            Some(Verdict::Illegal(rule)) => return Ok(CheckStatus::Illegal { line: line_number, rule }),
+            Some(Verdict::Illegal(rule)) => return Ok(CheckStatus::Illegal {
+                line: line_number,
+                rule,
+            }),
             None => return Ok(CheckStatus::BadLine(line_number)),
         }
         entries += 1;
@@ -58,7 +61,11 @@ fn check_entries(alloc: Global, geometry: Geometry, bytes: &[u8]) -> Result<Chec
 }
 
 // The verdict on the entry of a line after a journal for which the machine stands, or `None` where the line is none.
-fn check_line(alloc: Global, machine: &mut Machine, line: &[u8]) -> Result<Option<Verdict>, AllocError>
+fn check_line(
+    alloc: Global,
+    machine: &mut Machine,
+    line: &[u8],
+) -> Result<Option<Verdict>, AllocError>
     ensures verdict { IfOk result (λ verdict. (g : Geometry) (h : List Entry) → StandsFor machine.old g h
         → verdict ≡ line_verdict g h line.now) }
     ensures legal { OnOk result ((g : Geometry) (h : List Entry) → StandsFor machine.old g h

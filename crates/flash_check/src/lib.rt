@@ -19,3 +19,5 @@ pub use laws::each_run_is_legal;
 pub use run::run_check;
 pub use status::CheckStatus;
 
+#[cfg(test)]
+mod tests;
