@@ -19,7 +19,7 @@ use Rattle.flash_machine.specs.Legal as runs
 use Rattle.flash_machine.specs.Legal.{Meets, LegalFrom}
 use Rattle.flash_machine.specs.Rules.{rules, broken}
 use Rattle.flash_machine.specs.Steps.{cache_of, next}
-use Rattle.flash_machine.specs.StubLaws.{RulesDecide}
+use Rattle.flash_machine.specs.Deciding.{RulesDecide}
 use Rattle.flash_check.specs.declared.status.CheckStatus.{CheckStatus}
 use Rattle.flash_check.specs.declared.status.CheckStatus.TheVariants.{Legal, Illegal, BadLine}
 use Rattle.flash_check.specs.JournalLaws.{IsRun, EachRunIsLegal}

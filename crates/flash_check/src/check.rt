@@ -72,7 +72,7 @@ fn check_line(
         → StandsWith machine.new g h line.now) }
 {
     match read_entry(alloc, line) {
-        Ok(entry) => Ok(Some(machine.step(&entry)?)),
+        Ok(entry) => Ok(Some(machine.step(alloc, &entry)?)),
         Err(EntryFault::NoMemory) => Err(AllocError),
         Err(_) => Ok(None),
     }

@@ -21,7 +21,7 @@ use Rattle.flash_entry.specs.WordValues.{or_word}
 use Rattle.flash_entry.specs.FixedWords as fixed
 use Rattle.flash_entry.specs.FieldReading as fields
 use Rattle.flash_entry.specs.IsEntry.{IsNumber, IsNarrow, IsSigned, IsKey, IsId, IsLabel, IsPlace}
-use Rattle.flash_entry.proofs.GeometryLineWords.{one_word-decimal}
+use Rattle.flash_entry.proofs.GeometryLineWords.{IsOneWord, one_word-decimal}
 use Rattle.flash_entry.proofs.NumberWords.{plain-back, signed-word}
 use Rattle.flash_entry.proofs.NumberWords.{narrow-back as narrow_word-back, signed-back as signed_word-back}
 use Rattle.flash_entry.proofs.DigitLemmas.{digits-word, key-back as key_word-back, value-back as value_word-back}
@@ -140,17 +140,18 @@ pub end_cause-back : (x : EndCause) → ReadsBack fields.end_cause (word (end_wo
 unfolding fields.end_cause
 end_cause-back x = one_back fixed.end_cause BadWord (end_word x) (words.end_cause-word x) (words.end_cause-back x)
 
+only-back : (w : List ℕ) → IsOneWord w → ReadsBack (fields.only w) (word w) tt
+unfolding fields.only
+only-back w one = one_back (fixed.only w) BadWord w one (words.only-back w)
+
 pub equality-back : ReadsBack fields.equality (word (codes "=")) tt
-unfolding fields.equality
-equality-back = one_back fixed.equality BadWord (codes "=") (no_space (codes "=") refl) words.equality-back
+equality-back = only-back (codes "=") (no_space (codes "=") refl)
 
 pub dash-back : ReadsBack fields.dash (word (codes "-")) tt
-unfolding fields.dash
-dash-back = one_back fixed.dash BadWord (codes "-") (no_space (codes "-") refl) words.dash-back
+dash-back = only-back (codes "-") (no_space (codes "-") refl)
 
 pub done-back : ReadsBack fields.done (word (codes "ok")) tt
-unfolding fields.done
-done-back = one_back fixed.done BadWord (codes "ok") (no_space (codes "ok") refl) words.done-back
+done-back = only-back (codes "ok") (no_space (codes "ok") refl)
 
 pub id-back : (id : Id) → IsId id → ReadsBack fields.id (id_text id) id
 unfolding fields.id

@@ -33,7 +33,7 @@ use Rattle.flash_entry.specs.declared.kinds.PageKind.TheVariants as pages
 use Rattle.flash_entry.specs.declared.kinds.Verb.{Verb}
 use Rattle.flash_entry.specs.declared.kinds.Verb.TheVariants as verbs
 use Rattle.flash_entry.specs.EntryText.{mode_word, stored_text, gone_word, sum_text, touched_word, direction_word, wanted_word, cause_word, drop_word, end_word}
-use Rattle.flash_entry.specs.FixedWords.{step_kind, lookup_kind, item_kind, page_kind, kind, mode, other_verb, verb, equality, dash, done, refusal, gone, sum_refusal, touched, wanted, cause, drop_cause, end_cause}
+use Rattle.flash_entry.specs.FixedWords.{step_kind, lookup_kind, item_kind, page_kind, kind, mode, other_verb, verb, only, refusal, gone, sum_refusal, touched, wanted, cause, drop_cause, end_cause}
 use Rattle.flash_entry.specs.IsEntry.{IsStored, IsSum}
 use Rattle.flash_entry.proofs.GeometryLineWords.{IsOneWord}
 
@@ -258,29 +258,13 @@ verb-word verbs.Touch = no_space (verb_text verbs.Touch) refl
 verb-word verbs.Flush = no_space (verb_text verbs.Flush) refl
 verb-word verbs.Stats = no_space (verb_text verbs.Stats) refl
 
-pub equality-spelled : (w : List ℕ) (x : Unit {0}) → equality w ≡ Some x → codes "=" ≡ w
-unfolding equality
-equality-spelled w x is = pick (λ v. codes "=" ≡ w) w (codes "=") tt x _ sym (no_other (λ v. codes "=" ≡ w) x) is
+pub only-spelled : (expected w : List ℕ) (x : Unit {0}) → only expected w ≡ Some x → expected ≡ w
+unfolding only
+only-spelled expected w x is = pick (λ v. expected ≡ w) w expected tt x _ sym (no_other (λ v. expected ≡ w) x) is
 
-pub equality-back : equality (codes "=") ≡ Some tt
-unfolding equality
-equality-back = refl
-
-pub dash-spelled : (w : List ℕ) (x : Unit {0}) → dash w ≡ Some x → codes "-" ≡ w
-unfolding dash
-dash-spelled w x is = pick (λ v. codes "-" ≡ w) w (codes "-") tt x _ sym (no_other (λ v. codes "-" ≡ w) x) is
-
-pub dash-back : dash (codes "-") ≡ Some tt
-unfolding dash
-dash-back = refl
-
-pub done-spelled : (w : List ℕ) (x : Unit {0}) → done w ≡ Some x → codes "ok" ≡ w
-unfolding done
-done-spelled w x is = pick (λ v. codes "ok" ≡ w) w (codes "ok") tt x _ sym (no_other (λ v. codes "ok" ≡ w) x) is
-
-pub done-back : done (codes "ok") ≡ Some tt
-unfolding done
-done-back = refl
+pub only-back : (w : List ℕ) → only w w ≡ Some tt
+unfolding only
+only-back w = ap (λ test. if test then Some tt else None) ((bytes_eq-Decides w w).1 refl)
 
 pub gone-spelled : (w : List ℕ) (x : Gone) → gone w ≡ Some x → gone_word x ≡ w
 unfolding gone

@@ -12,7 +12,7 @@ use Rattle.flash_entry.specs.FieldReading as fields
 use Rattle.flash_entry.specs.IsEntry.{IsNumber, IsNarrow, IsSigned, IsKey, IsId, IsLabel, IsPlace}
 use Rattle.flash_entry.proofs.NumberWords.{plain-spelled, narrow-spelled, signed-spelled}
 use Rattle.flash_entry.proofs.DigitLemmas.{key-spelled, value-spelled}
-use Rattle.flash_entry.proofs.FixedLemmas.{same_bytes, kind_text, verb_text, kind-spelled, verb-spelled, equality-spelled, dash-spelled, done-spelled, gone-spelled, touched-spelled, wanted-spelled, cause-spelled, drop_cause-spelled, end_cause-spelled}
+use Rattle.flash_entry.proofs.FixedLemmas.{same_bytes, kind_text, verb_text, kind-spelled, verb-spelled, only-spelled, gone-spelled, touched-spelled, wanted-spelled, cause-spelled, drop_cause-spelled, end_cause-spelled}
 use Rattle.flash_entry.proofs.Sound.{IsSound, one_word, goes_on, given, at_start}
 
 -- a word with its space
@@ -116,17 +116,19 @@ pub verb-sound : IsSound (λ v. word (verb_text v)) (λ _. Unit {0}) fields.verb
 unfolding fields.verb
 verb-sound = one_word fixed.verb BadWord (λ w v is. (spaced_word (verb-spelled w v is), tt))
 
+only-sound : (expected : List ℕ) → IsSound (λ _. word expected) (λ _. Unit {0}) (fields.only expected)
+unfolding fields.only
+only-sound expected =
+    one_word (fixed.only expected) BadWord (λ w v is. (spaced_word (only-spelled expected w v is), tt))
+
 pub equality-sound : IsSound (λ _. word (codes "=")) (λ _. Unit {0}) fields.equality
-unfolding fields.equality
-equality-sound = one_word fixed.equality BadWord (λ w v is. (spaced_word (equality-spelled w v is), tt))
+equality-sound = only-sound (codes "=")
 
 pub dash-sound : IsSound (λ _. word (codes "-")) (λ _. Unit {0}) fields.dash
-unfolding fields.dash
-dash-sound = one_word fixed.dash BadWord (λ w v is. (spaced_word (dash-spelled w v is), tt))
+dash-sound = only-sound (codes "-")
 
 pub done-sound : IsSound (λ _. word (codes "ok")) (λ _. Unit {0}) fields.done
-unfolding fields.done
-done-sound = one_word fixed.done BadWord (λ w v is. (spaced_word (done-spelled w v is), tt))
+done-sound = only-sound (codes "ok")
 
 pub gone-sound : IsSound (λ g. word (gone_word g)) (λ _. Unit {0}) fields.gone
 unfolding fields.gone

@@ -1,5 +1,5 @@
 -- The readings of an entry's fields.
-use Rattle.std.specs.Prelude.{ℕ, ℤ, List, Bool, Option}
+use Rattle.std.specs.Prelude.{ℕ, ℤ, List, Bool, Option, codes}
 use Rattle.flash_names.specs.declared.place.Label.{Label}
 use Rattle.flash_names.specs.declared.place.Place.{Place}
 use Rattle.flash_names.specs.declared.place.Id.{Id}
@@ -88,23 +88,23 @@ verb = do
   word ← next_word
   value_or (fixed.verb word) BadWord
 
--- the sign of equality before an answer
-unfoldable pub equality : Reading Unit
-equality = do
+-- this word and no other
+unfoldable pub only : List ℕ → Reading Unit
+only expected = do
   word ← next_word
-  value_or (fixed.equality word) BadWord
+  value_or (fixed.only expected word) BadWord
 
--- a dash
-unfoldable pub dash : Reading Unit
-dash = do
-  word ← next_word
-  value_or (fixed.dash word) BadWord
+-- the sign of equality before an answer
+abbrev pub equality : Reading Unit
+equality = only (codes "=")
+
+-- the second dash where nothing is to be created
+abbrev pub dash : Reading Unit
+dash = only (codes "-")
 
 -- the answer to a flush
-unfoldable pub done : Reading Unit
-done = do
-  word ← next_word
-  value_or (fixed.done word) BadWord
+abbrev pub done : Reading Unit
+done = only (codes "ok")
 
 -- the answer to a delete
 unfoldable pub gone : Reading Gone

@@ -98,17 +98,9 @@ other_verb word =
 unfoldable pub verb : List ℕ → Option Verb
 verb word = option_or (option_map verbs.Store (mode word)) (other_verb word)
 
--- the sign of equality before an answer
-unfoldable pub equality : List ℕ → Option Unit
-equality word = if bytes_eq word (codes "=") then Some tt else None
-
--- the second dash where nothing is to be created
-unfoldable pub dash : List ℕ → Option Unit
-dash word = if bytes_eq word (codes "-") then Some tt else None
-
--- the answer to a flush
-unfoldable pub done : List ℕ → Option Unit
-done word = if bytes_eq word (codes "ok") then Some tt else None
+-- this word and no other
+unfoldable pub only : List ℕ → List ℕ → Option Unit
+only expected word = if bytes_eq word expected then Some tt else None
 
 -- the answer to a store that was refused
 unfoldable pub refusal : List ℕ → Option Stored

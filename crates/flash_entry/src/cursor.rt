@@ -176,28 +176,31 @@ impl<'a> Cursor<'a> {
         fixed::verb(word).ok_or(self.bad_word())
     }
 
-    #[tactic(auto, unfolding(crate::specs::FieldReading::equality))]
+    // This word and no other.
+    #[tactic(auto, unfolding(crate::specs::FieldReading::only))]
+    fn only(&mut self, expected: &[u8]) -> Result<(), EntryFault>
+        ensures { Reads (fields.only expected.now self.old) result self.new }
+    {
+        let word = self.word()?;
+        fixed::only(expected, word).ok_or(self.bad_word())
+    }
+
     pub fn equality(&mut self) -> Result<(), EntryFault>
         ensures { Reads (fields.equality self.old) result self.new }
     {
-        let word = self.word()?;
-        fixed::equality(word).ok_or(self.bad_word())
+        self.only(b"=")
     }
 
-    #[tactic(auto, unfolding(crate::specs::FieldReading::dash))]
     pub fn dash(&mut self) -> Result<(), EntryFault>
         ensures { Reads (fields.dash self.old) result self.new }
     {
-        let word = self.word()?;
-        fixed::dash(word).ok_or(self.bad_word())
+        self.only(b"-")
     }
 
-    #[tactic(auto, unfolding(crate::specs::FieldReading::done))]
     pub fn done(&mut self) -> Result<(), EntryFault>
         ensures { Reads (fields.done self.old) result self.new }
     {
-        let word = self.word()?;
-        fixed::done(word).ok_or(self.bad_word())
+        self.only(b"ok")
     }
 
     #[tactic(auto, unfolding(crate::specs::FieldReading::gone))]

@@ -137,37 +137,12 @@ pub fn verb(word: &[u8]) -> Option<Verb>
     }
 }
 
-#[tactic(auto, unfolding(crate::specs::FixedWords::equality))]
-pub fn equality(word: &[u8]) -> Option<()>
-    ensures { result ≡ fixed.equality word.now }
+// This word and no other.
+#[tactic(auto, unfolding(crate::specs::FixedWords::only))]
+pub fn only(expected: &[u8], word: &[u8]) -> Option<()>
+    ensures { result ≡ fixed.only expected.now word.now }
 {
-    if word == b"=".as_slice() {
-        Some(())
-    } else {
-        None
-    }
-}
-
-#[tactic(auto, unfolding(crate::specs::FixedWords::dash))]
-pub fn dash(word: &[u8]) -> Option<()>
-    ensures { result ≡ fixed.dash word.now }
-{
-    if word == b"-".as_slice() {
-        Some(())
-    } else {
-        None
-    }
-}
-
-#[tactic(auto, unfolding(crate::specs::FixedWords::done))]
-pub fn done(word: &[u8]) -> Option<()>
-    ensures { result ≡ fixed.done word.now }
-{
-    if word == b"ok".as_slice() {
-        Some(())
-    } else {
-        None
-    }
+    if word == expected { Some(()) } else { None }
 }
 
 #[tactic(auto, unfolding(crate::specs::FixedWords::refusal))]

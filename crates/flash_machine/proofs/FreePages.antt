@@ -1,5 +1,5 @@
 -- The number of free pages, entry by entry.
-use Rattle.std.proofs.Common.{◌≡◌, ℕ, zero, suc, ◌+◌, ◌<◌, Bool, true, false, cond, List, [], ◌∷◌, ◌++◌, Option, None, Some, inl, inr, refl, sym, ◌∙◌, ap, arith}
+use Rattle.std.proofs.Common.{◌≡◌, ℕ, zero, suc, ◌+◌, ◌<◌, ◌≤◌, Bool, true, false, cond, List, [], ◌∷◌, ◌++◌, Option, None, Some, inl, inr, refl, sym, ◌∙◌, ap, arith}
 use Rattle.std.specs.Prelude.{nat_eq, is_none}
 use Rattle.std.proofs.lemmas.Bool.{cases_eq, eqb-true, ne_eqb}
 use Rattle.flash_names.specs.declared.place.Label.{Label}
@@ -43,7 +43,7 @@ module _ (g : Geometry) where
   are_own h orderly = EachFrom-keeps (IsOrderly g) AreOwn own_one [] h orderly (λ page label none. absurd (cc none))
 
 -- pages below a number that have the same labels: as many of them are free
-same_below : (n : ℕ) (h j : List Entry) → ((page : ℕ) → page < n → page_label page j ≡ page_label page h) → free_below n j ≡ free_below n h
+pub same_below : (n : ℕ) (h j : List Entry) → ((page : ℕ) → page < n → page_label page j ≡ page_label page h) → free_below n j ≡ free_below n h
 same_below zero h j same = refl
 same_below (suc n) h j same =
     let rest = same_below n h j (λ page below. same page (omega (arith, below))) in
@@ -51,7 +51,7 @@ same_below (suc n) h j same =
     omega (arith, rest, one)
 
 -- one free page fewer, where one of them has a label now and the others have the same
-one_fewer : (n : ℕ) (h j : List Entry) (p : ℕ) (label : Label) → p < n → page_label p h ≡ None → page_label p j ≡ Some label
+pub one_fewer : (n : ℕ) (h j : List Entry) (p : ℕ) (label : Label) → p < n → page_label p h ≡ None → page_label p j ≡ Some label
     → ((page : ℕ) → (page ≡ p → ⊥) → page_label page j ≡ page_label page h) → free_below n j + 1 ≡ free_below n h
 one_fewer zero h j p label below free has same = absurd (omega (arith, below))
 one_fewer (suc n) h j p label below free has same = elim (cases_eq n p) [
@@ -83,7 +83,7 @@ module _ (h : List Entry) (label : Label) where
       read_off-one (label_step label.page) None h (entries.Freed label)
       ∙ ap (λ (b : Bool). cond b None (page_label label.page h)) (number_itself label.page)
 
-kept_free : (g : Geometry) (h : List Entry) (e : Entry) → ((page : ℕ) → label_step page (page_label page h) e ≡ page_label page h) → free_pages g (h ++ e ∷ []) ≡ free_pages g h
+pub kept_free : (g : Geometry) (h : List Entry) (e : Entry) → ((page : ℕ) → label_step page (page_label page h) e ≡ page_label page h) → free_pages g (h ++ e ∷ []) ≡ free_pages g h
 kept_free g h e same = same_below g.pages h (h ++ e ∷ []) (λ page below. read_off-one (label_step page) None h e ∙ same page)
 
 module _ (g : Geometry) where
@@ -102,3 +102,12 @@ module _ (g : Geometry) where
 pub all_free : (n : ℕ) → free_below n [] ≡ n
 all_free zero = refl
 all_free (suc n) = omega (arith, all_free n)
+
+at_most_one : (b : Bool) → cond b 1 0 ≤ 1
+at_most_one true = omega arith
+at_most_one false = omega arith
+
+-- no more pages are free than there are
+pub free_within : (n : ℕ) (h : List Entry) → free_below n h ≤ n
+free_within zero h = omega arith
+free_within (suc n) h = omega (arith, free_within n h, at_most_one (is_none (page_label n h)))

@@ -2,16 +2,11 @@
 use Rattle.std.specs.Prelude.{ℕ, List, Option, None, Some, if◌then◌else◌}
 use Rattle.std.specs.Option.{option_map}
 use Rattle.flash_names.specs.declared.place.Id.{Id}
-use Rattle.flash_names.specs.declared.place.Place.{Place}
 use Rattle.flash_entry.specs.declared.entry.Entry.{Entry}
 use Rattle.flash_entry.specs.declared.entry.Entry.TheVariants as entries
+pub use Rattle.flash_machine.specs.declared.machine.read_table.DeviceRead.{DeviceRead}
 use Rattle.flash_machine.specs.Lookups.{same_id}
 use Rattle.flash_machine.specs.ReadOff.{read_off}
-
--- a read: its place, and its outcome once it has ended: the bytes, or none where it failed
-pub record DeviceRead : Type 0 where
-  pub place : Place
-  pub outcome : Option (Option (List ℕ))
 
 abbrev pub with_outcome : Option (List ℕ) → DeviceRead → DeviceRead
 with_outcome outcome read = record read { outcome = Some outcome }

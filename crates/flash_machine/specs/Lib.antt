@@ -1,9 +1,11 @@
 pub mod Cache
 pub mod Codes
+pub mod Deciding
 pub mod Deleting
 pub mod DeviceReads
 pub mod EachFrom
 pub mod Finding
+pub mod Followed
 pub mod Honest
 pub mod HonestLaws
 pub mod Item
@@ -30,6 +32,7 @@ pub mod RuleFacts
 pub mod Rules
 pub mod Same
 pub mod Splits
+pub mod Stands
 pub mod Steps
 pub mod Storing
 pub mod Summing

@@ -16,13 +16,14 @@ bytes_here item = if is_none item.label then length item.value else 0
 abbrev pub item_load : List ℕ → Item → ℕ
 item_load key item = 64 + length key + bytes_here item
 
-abbrev pub load_of_entries : List (List ℕ × Item) → ℕ
-load_of_entries [] = 0
-load_of_entries (entry ∷ rest) = item_load entry.0 entry.1 + load_of_entries rest
+-- the sum of what each entry counts
+abbrev pub total : (List ℕ × Item → ℕ) → List (List ℕ × Item) → ℕ
+total count [] = 0
+total count (entry ∷ rest) = count entry + total count rest
 
 -- what all items take of the memory, in bytes
 abbrev pub load_of : Items → ℕ
-load_of items = load_of_entries (map.entries items)
+load_of items = total (λ entry. item_load entry.0 entry.1) (map.entries items)
 
 -- the numbers of a store; a load above 2^64 - 1 counts as that
 abbrev pub tally_of : Geometry → List Entry → Cache → Tally

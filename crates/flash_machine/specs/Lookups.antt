@@ -3,7 +3,6 @@ use Rattle.std.specs.Prelude.{ℕ, Bool, false, ◌&&◌, nat_eq, List, [], ◌�
 use Rattle.std.specs.Option.{option_map, option_to_list}
 use Rattle.std.specs.List.{list_any}
 use Rattle.flash_names.specs.declared.place.Id.{Id}
-use Rattle.flash_names.specs.declared.place.Label.{Label}
 use Rattle.flash_names.specs.declared.geometry.Geometry.{Geometry}
 use Rattle.flash_entry.specs.declared.entry.Close.{Close}
 use Rattle.flash_entry.specs.declared.entry.Residence.{Residence}
@@ -11,6 +10,7 @@ use Rattle.flash_entry.specs.declared.entry.Residence.TheVariants as residence
 use Rattle.flash_entry.specs.declared.entry.Entry.{Entry}
 use Rattle.flash_entry.specs.declared.entry.Entry.TheVariants as entries
 use Rattle.flash_machine.specs.Item.{Item}
+pub use Rattle.flash_machine.specs.declared.machine.lookup_table.Lookup.{Lookup}
 use Rattle.flash_machine.specs.Cache.{Cache, first_cache}
 use Rattle.flash_machine.specs.Live.{live_item}
 use Rattle.flash_machine.specs.Steps.{next}
@@ -18,12 +18,6 @@ use Rattle.flash_machine.specs.Steps.{next}
 -- the same step of the same pass
 abbrev pub same_id : Id → Id → Bool
 same_id one other = nat_eq one.pass other.pass && nat_eq one.seq other.seq
-
--- a lookup of an item on flash: its key, and the item and its label as they were when it was looked up
-pub record Lookup : Type 0 where
-  pub key : List ℕ
-  pub item : Item
-  pub label : Label
 
 -- the lookup that opens where the value is wanted and on flash
 abbrev pub opened_by : Bool → List ℕ → Option Item → Residence → Option Lookup → Option Lookup

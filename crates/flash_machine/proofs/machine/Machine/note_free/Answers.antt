@@ -1,0 +1,17 @@
+use Rattle.std.proofs.Common.{refl}
+use Rattle.flash_entry.specs.declared.entry.Entry.TheVariants as entries
+use Rattle.flash_machine.proofs.Passing.{cache_on, steps_on, reads_on, writes_on, lookups_on}
+use Rattle.flash_machine.proofs.machine.Machine.note_free.Goals as goal
+
+pub returns : goal.returns
+returns c = λ g h stands meets.
+    let e = entries.Freed c.args.label in
+    record {
+      geometry = stands.geometry;
+      cache = cache_on g c.args.self.now.cache h e stands.cache;
+      pages = c.free_page.ensures g h stands.pages meets.0;
+      steps = steps_on g c.args.self.now.steps h e refl stands.steps;
+      lookups = lookups_on g c.args.self.now.lookups h e tt stands.lookups;
+      reads = reads_on g c.args.self.now.reads h e tt stands.reads;
+      writes = writes_on g c.args.self.now.writes h e tt stands.writes;
+    }
