@@ -6,6 +6,7 @@ mod DigitLemmas
 mod FixedLemmas
 mod GeometryLineWords
 mod NumberWords
+mod OneLines
 mod ReadBack
 mod Sound
 mod SoundEntries

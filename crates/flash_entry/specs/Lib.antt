@@ -8,6 +8,7 @@ pub mod GeometryLine
 pub mod GeometryLineLaws
 pub mod IsEntry
 pub mod Noted
+pub mod OneLine
 pub mod Readings
 pub mod Text
 pub mod WordValues

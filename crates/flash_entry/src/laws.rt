@@ -1,5 +1,5 @@
 // Laws of the texts. Each function has no body: its contract is the law.
-ghost use Rattle.flash_entry.specs.EntryLaws.{EachEntryIsReadBack, WhatIsReadIsItsLine};
+ghost use Rattle.flash_entry.specs.EntryLaws.{EachEntryIsOneLine, EachEntryIsReadBack, WhatIsReadIsAnEntry, WhatIsReadIsItsLine};
 ghost use Rattle.flash_entry.specs.GeometryLineLaws.{GeometryLinesAreReadBack};
 
 /// The line that is printed of a geometry that keeps its rules is read as that geometry.
@@ -15,4 +15,14 @@ pub fn each_entry_is_read_back()
 /// A line that is read as an entry is the line of that entry, without its line feed.
 pub fn what_is_read_is_its_line()
     ensures { WhatIsReadIsItsLine }
+{}
+
+/// What is read of a line is an entry of the type: each number fits its field.
+pub fn what_is_read_is_an_entry()
+    ensures { WhatIsReadIsAnEntry }
+{}
+
+/// The line of every entry has a line feed at its end, and none before it.
+pub fn each_entry_is_one_line()
+    ensures { EachEntryIsOneLine }
 {}

@@ -39,7 +39,10 @@ pub use entry_fault::EntryFault;
 pub use found::{Cause, Closed, Head, Hit, LookAnswer, Outcome, Told};
 pub use geometry_line::{HeadFault, print_head, read_head};
 pub use journal::{Counted, Journal, Kept};
-pub use laws::{each_entry_is_read_back, geometry_lines_are_read_back, what_is_read_is_its_line};
+pub use laws::{
+    each_entry_is_one_line, each_entry_is_read_back, geometry_lines_are_read_back,
+    what_is_read_is_an_entry, what_is_read_is_its_line,
+};
 pub use note::{CloseNote, DoneNote, Note};
 pub use print::print_entry;
 pub use read::read_entry;

@@ -1,14 +1,39 @@
--- How the program ends where a trace has ended.
-use Rattle.std.specs.Prelude.{ℕ, List, Option, None, Some, codes}
+-- How the program ends after a trace or a check, and its exit status.
+use Rattle.std.specs.Prelude.{ℕ}
+use Rattle.flash_check.specs.declared.status.CheckStatus.{CheckStatus}
+use Rattle.flash_check.specs.declared.status.CheckStatus.TheVariants as checks
 use Rattle.flash_trace.specs.declared.fault.Status.{Status}
-use Rattle.flash_trace.specs.declared.fault.Status.TheVariants as statuses
+use Rattle.flash_trace.specs.declared.fault.Status.TheVariants as traces
+use Rattle.flash_server.specs.declared.status.End.{End}
+use Rattle.flash_server.specs.declared.status.End.TheVariants as ends
+
+-- after a trace that ended so
+abbrev pub trace_end : Status → End
+trace_end traces.Done = ends.Done
+trace_end traces.Usage = ends.Usage
+trace_end (traces.Script fault) = ends.BadLine
+trace_end traces.SourceFault = ends.SourceFault
+trace_end traces.SinkFault = ends.SinkFault
+trace_end traces.PrepareFault = ends.DeviceFault
+trace_end traces.NoMemory = ends.NoMemory
+
+-- after a check that ended so
+abbrev pub check_end : CheckStatus → End
+check_end (checks.Legal entries) = ends.Done
+check_end (checks.Illegal line rule) = ends.Illegal
+check_end (checks.BadLine line) = ends.BadLine
+check_end checks.Usage = ends.Usage
+check_end checks.SourceFault = ends.SourceFault
+check_end checks.SinkFault = ends.SinkFault
+check_end checks.NoMemory = ends.NoMemory
 
 -- its exit status
-abbrev pub exit_status : Status → ℕ
-exit_status statuses.Done = 0
-exit_status statuses.Usage = 2
-exit_status (statuses.Script fault) = 3
-exit_status statuses.SourceFault = 4
-exit_status statuses.SinkFault = 5
-exit_status statuses.PrepareFault = 6
-exit_status statuses.NoMemory = 7
+abbrev pub exit_status : End → ℕ
+exit_status ends.Done = 0
+exit_status ends.Illegal = 1
+exit_status ends.Usage = 2
+exit_status ends.BadLine = 3
+exit_status ends.SourceFault = 4
+exit_status ends.SinkFault = 5
+exit_status ends.DeviceFault = 6
+exit_status ends.NoMemory = 7

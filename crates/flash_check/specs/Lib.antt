@@ -1,0 +1,8 @@
+pub mod CommandLine
+pub mod Ends
+pub mod JournalLaws
+pub mod LineVerdicts
+pub mod Lines
+pub mod Outside
+pub mod Texts
+pub mod Verdicts
