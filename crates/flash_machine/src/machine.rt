@@ -1,12 +1,11 @@
 // The machine that decides whether a journal goes on as a run. Each table follows what one group of rules asks of the
 // journal, so that no rule looks through it.
 
-ghost use Rattle.std.specs.Prelude.{◌≡◌, ◌≢◌, [], ◌∷◌, ◌++◌, None, IfOk, OnOk, OnErr, List, Result, Ok};
+ghost use Rattle.std.specs.Prelude.{◌≡◌, ◌≢◌, [], ◌∷◌, ◌++◌, None, IfOk, OnOk, OnErr, List, Ok};
 ghost use Rattle.flash_names.specs.Geometry.{check_result};
 ghost use Rattle.flash_machine.specs.Steps.{cache_of};
 ghost use Rattle.flash_machine.specs.Rules.{rules, broken};
-ghost use Rattle.flash_machine.specs.Legal.{Meets};
-ghost use Rattle.flash_machine.specs.Stands.{StandsFor, verdict_of};
+ghost use Rattle.flash_machine.specs.Stands.{StandsFor, Judges, Takes, StandsOn, verdict_of};
 
 mod cache_table;
 mod changing;
@@ -82,7 +81,7 @@ impl Machine {
         ensures legal { OnOk result ((g : Geometry) (h : List Entry) → StandsFor self.old g h
             → broken (rules g h (cache_of g h) entry.now) ≡ None → StandsFor self.new g (h ++ entry.now ∷ [])) }
         ensures illegal { IfOk result (λ verdict. verdict ≢ Verdict.Legal → self.new ≡ self.old) }
-        ensures refused { OnErr result ((g : Geometry) (h : List Entry) → StandsFor self.old g h → StandsFor self.new g h) }
+        ensures refused { OnErr result (StandsOn self.old self.new) }
     {
         if let Some(rule) = self.broken(entry) {
             return Ok(Verdict::Illegal(rule));
@@ -93,7 +92,7 @@ impl Machine {
 
     // The number of the lowest rule that the entry breaks, if it breaks one.
     fn broken(&self, entry: &Entry) -> Option<u32>
-        ensures { (g : Geometry) (h : List Entry) → StandsFor self.now g h → result ≡ broken (rules g h (cache_of g h) entry.now) }
+        ensures { Judges self.now entry.now result }
     {
         match entry {
             Entry::Clock(moment) => self.broken_by_clock(*moment),
@@ -116,9 +115,8 @@ impl Machine {
 
     // Takes a legal entry.
     fn note(&mut self, alloc: Global, entry: &Entry) -> Result<(), AllocError>
-        ensures noted { OnOk result ((g : Geometry) (h : List Entry) → StandsFor self.old g h → Meets g h (cache_of g h) entry.now
-            → StandsFor self.new g (h ++ entry.now ∷ [])) }
-        ensures refused { OnErr result ((g : Geometry) (h : List Entry) → StandsFor self.old g h → StandsFor self.new g h) }
+        ensures noted { OnOk result (Takes self.old entry.now self.new) }
+        ensures refused { OnErr result (StandsOn self.old self.new) }
     {
         match entry {
             Entry::Clock(moment) => {

@@ -1,4 +1,4 @@
-ghost use Rattle.std.specs.Prelude.{◌≡◌, ℕ, ◌<◌, ◌≤◌, ◌^◌, [], None, Some, IsTrue, OnOk, OnErr, List, Option};
+ghost use Rattle.std.specs.Prelude.{◌≡◌, ◌<◌, None, Some, IsTrue, List};
 ghost use Rattle.std.specs.Option.{option_copied};
 ghost use Rattle.std.specs.FinMap as map;
 ghost use Rattle.flash_names.specs.declared.geometry.Geometry.{Geometry};
@@ -8,9 +8,9 @@ ghost use Rattle.flash_machine.specs.Live.{is_expired_item, label_has_ended, is_
 ghost use Rattle.flash_machine.specs.Load.{tally_of};
 ghost use Rattle.flash_machine.specs.Same.{same_tally, same_residence};
 ghost use Rattle.flash_machine.specs.Looking.{residence_of};
-ghost use Rattle.flash_machine.specs.Rules.{moment_rises, is_found};
+ghost use Rattle.flash_machine.specs.Rules.{moment_rises};
 ghost use Rattle.flash_machine.specs.Steps.{clock_next};
-ghost use Rattle.flash_machine.specs.Followed.{FollowsCache, FollowsPages, FollowsItems};
+ghost use Rattle.flash_machine.specs.Followed.{FollowsCache, FollowsPages};
 
 use crate::machine::item::Item;
 use crate::machine::item_table::ItemTable;
@@ -81,7 +81,8 @@ impl CacheTable {
     }
 
     pub fn set_clock(&mut self, moment: u64)
-        ensures { (c : Cache) → FollowsCache self.old c → IsTrue (moment_rises c moment) → FollowsCache self.new (clock_next c moment) }
+        ensures { (c : Cache) → FollowsCache self.old c → IsTrue (moment_rises c moment)
+            → FollowsCache self.new (clock_next c moment) }
     {
         if is_reached(self.pending_flush, moment) {
             self.flush_mark = self.last_cas;

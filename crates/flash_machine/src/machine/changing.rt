@@ -1,5 +1,5 @@
 // The steps that store no new value.
-ghost use Rattle.std.specs.Prelude.{◌≡◌, ◌≤◌, ◌^◌, ℕ, None, Some, IfOk, IsTrue, OnOk, OnErr, List, ℤ, Option, option_copied};
+ghost use Rattle.std.specs.Prelude.{◌≡◌, ◌≤◌, ◌^◌, ℕ, IfOk, OnOk, OnErr, List, ℤ, option_copied};
 ghost use Rattle.std.specs.FinMap as map;
 ghost use Rattle.flash_names.specs.declared.geometry.Geometry.{Geometry};
 ghost use Rattle.flash_entry.specs.declared.entry.Entry.{Entry};
@@ -52,7 +52,8 @@ impl CacheTable {
     }
 
     pub fn touch(&mut self, pages: &PageTable, key: &Key, exptime: &i64) -> Result<(), AllocError>
-        ensures touched { OnOk result ((g : Geometry) (h : List Entry) (c : Cache) → FollowsPages pages.now g h → FollowsCache self.old c
+        ensures touched { OnOk result ((g : Geometry) (h : List Entry) (c : Cache) → FollowsPages pages.now g h
+            → FollowsCache self.old c
             → FollowsCache self.new (touch_step c key.now exptime.now (live_item h c key.now)).1) }
         ensures refused { OnErr result ((c : Cache) → FollowsCache self.old c → FollowsCache self.new c) }
     {
@@ -76,7 +77,8 @@ impl CacheTable {
     }
 
     pub fn look(&mut self, pages: &PageTable, key: &Key, look: Look) -> Result<(), AllocError>
-        ensures looked { OnOk result ((g : Geometry) (h : List Entry) (c : Cache) → FollowsPages pages.now g h → FollowsCache self.old c
+        ensures looked { OnOk result ((g : Geometry) (h : List Entry) (c : Cache) → FollowsPages pages.now g h
+            → FollowsCache self.old c
             → FollowsCache self.new (look_next c key.now look (live_item h c key.now))) }
         ensures refused { OnErr result ((c : Cache) → FollowsCache self.old c → FollowsCache self.new c) }
     {
@@ -104,7 +106,8 @@ impl CacheTable {
 
 // The item with the deadline of this exptime at this moment.
 fn with_exptime(item: &Item, exptime: &i64, now: u64) -> Result<Item, AllocError>
-    ensures { IfOk result (λ changed. now ≤ 2 ^ 62 → changed ≡ record item.now { deadline = deadline exptime.now now }) }
+    ensures { IfOk result (λ changed. now ≤ 2 ^ 62
+        → changed ≡ record item.now { deadline = deadline exptime.now now }) }
 {
     let mut changed = item.share()?;
     changed.deadline = deadline_of(*exptime, now);
@@ -134,7 +137,8 @@ pub fn compare_fails(compare: Option<u64>, cas: u64) -> bool
 
 // Whether the answer is that of the step that deletes the key's item.
 pub fn is_delete_answer(live: Option<&Item>, compare: Option<u64>, answer: Gone) -> bool
-    ensures { (c : Cache) (key : List ℕ) → result ≡ same_gone answer (delete_step c key compare (option_copied live.entry)).0 }
+    ensures { (c : Cache) (key : List ℕ)
+        → result ≡ same_gone answer (delete_step c key compare (option_copied live.entry)).0 }
 {
     match live {
         None => matches!(answer, Gone::NotFound),
@@ -150,7 +154,8 @@ pub fn is_delete_answer(live: Option<&Item>, compare: Option<u64>, answer: Gone)
 
 // Whether the answer is that of the step that gives the key's item a new deadline.
 pub fn is_touch_answer(live: Option<&Item>, answer: Touched) -> bool
-    ensures { (c : Cache) (key : List ℕ) (exptime : ℤ) → result ≡ same_touched answer (touch_step c key exptime (option_copied live.entry)).0 }
+    ensures { (c : Cache) (key : List ℕ) (exptime : ℤ)
+        → result ≡ same_touched answer (touch_step c key exptime (option_copied live.entry)).0 }
 {
     match live {
         None => matches!(answer, Touched::NotFound),

@@ -1,4 +1,4 @@
-ghost use Rattle.std.specs.Prelude.{◌≡◌, ℕ, ◌<◌, [], ◌∷◌, ◌++◌, None, Some, IsTrue, IfOk, OnOk, OnErr, List, length, ◌+◌, Option, is_some, if◌then◌else◌};
+ghost use Rattle.std.specs.Prelude.{◌≡◌, ℕ, ◌<◌, Some, OnOk, OnErr, List, ◌+◌, is_some, if◌then◌else◌};
 ghost use Rattle.std.specs.Str.{bytes_eq};
 ghost use Rattle.std.specs.HashMap as hash;
 ghost use Rattle.std.specs.HashMap.{hash_map_len, spare};
@@ -68,7 +68,8 @@ impl ItemTable {
 
     // What the key's item takes of the memory.
     fn load_of(&self, key: &Key) -> u64
-        ensures { (items : Items) → FollowsItems self.now items → result ≡ counted (λ e. item_load e.0 e.1) key.now (map.get items key.now) }
+        ensures { (items : Items) → FollowsItems self.now items
+            → result ≡ counted (λ e. item_load e.0 e.1) key.now (map.get items key.now) }
     {
         match self.get(key) {
             None => 0,
@@ -110,7 +111,8 @@ fn insert(items: &mut HashMap<MapKey, Item>, key: &Key, item: Item)
     ensures got { (other : List ℕ) → hash.get bytes_eq items.new other
         ≡ (if bytes_eq key.now other then Some item else hash.get bytes_eq items.old other) }
     ensures len { hash_map_len items.new
-        ≡ (if is_some (hash.get bytes_eq items.old key.now) then hash_map_len items.old else hash_map_len items.old + 1) }
+        ≡ (if is_some (hash.get bytes_eq items.old key.now) then hash_map_len items.old
+        else hash_map_len items.old + 1) }
 {
     let _ = items.insert(MapKey::of(key), item);
 }

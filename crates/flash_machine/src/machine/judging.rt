@@ -1,11 +1,11 @@
 // Which rule an entry breaks, if it breaks one.
-ghost use Rattle.std.specs.Prelude.{◌≡◌, ℕ, [], ◌∷◌, None, Some, List, Option, option_copied};
-ghost use Rattle.flash_names.specs.declared.geometry.Geometry.{Geometry};
+ghost use Rattle.std.specs.Prelude.{◌≡◌, ℕ, [], ◌∷◌, option_copied};
 ghost use Rattle.flash_entry.specs.declared.entry.Entry.{Entry};
-ghost use Rattle.flash_machine.specs.Cache.{Cache};
-ghost use Rattle.flash_machine.specs.Live.{live_item};
 ghost use Rattle.flash_machine.specs.Steps.{cache_of};
-ghost use Rattle.flash_machine.specs.Rules.{rule, broken, rules, has_step_answer, is_record_for, is_item_record, is_open_and, is_hit_of, is_lost_by_end, is_lost_by_fault, is_lost_by_damage, has_read, has_failed, is_lookup_of, may_be_buffered, may_read_begin, may_be_moved, may_be_recached, drop_rules, end_rule, is_block, may_write_begin, has_cas, has_label, was_damaged};
+ghost use Rattle.flash_machine.specs.Rules.{rule, broken, has_step_answer, is_record_for, is_item_record, is_open_and};
+ghost use Rattle.flash_machine.specs.Rules.{is_hit_of, is_lost_by_end, is_lost_by_fault, is_lost_by_damage, has_read};
+ghost use Rattle.flash_machine.specs.Rules.{has_failed, is_lookup_of, may_be_buffered, is_block, may_write_begin};
+ghost use Rattle.flash_machine.specs.Rules.{has_cas, has_label, was_damaged};
 ghost use Rattle.std.specs.Prelude.{not, nat_le, ◌&&◌};
 ghost use Rattle.std.specs.List.{list_any};
 ghost use Rattle.std.specs.FinMap as map;
@@ -14,7 +14,7 @@ ghost use Rattle.flash_machine.specs.Writes.{open_write, last_write, is_written}
 ghost use Rattle.flash_machine.specs.Rules.{is_none_or, may_write_end, is_labelled, is_failure, ends_write_over};
 ghost use Rattle.flash_entry.specs.declared.ask.Look.{Look};
 ghost use Rattle.flash_machine.specs.Lookups.{open_lookup};
-ghost use Rattle.flash_machine.specs.Stands.{StandsFor};
+ghost use Rattle.flash_machine.specs.Stands.{Tells, Judges};
 
 use crate::machine::Machine;
 use crate::machine::cache_table::{has_ended, is_found};
@@ -35,13 +35,13 @@ fn unless(holds: bool, number: u32) -> Option<u32>
 
 impl Machine {
     pub fn broken_by_clock(&self, moment: u64) -> Option<u32>
-        ensures { (g : Geometry) (h : List Entry) → StandsFor self.now g h → result ≡ broken (rules g h (cache_of g h) (Entry.Clock moment)) }
+        ensures { Judges self.now (Entry.Clock moment) result }
     {
         unless(self.cache.moment_rises(moment), 1)
     }
 
     pub fn broken_by_did(&self, id: Id, done: &Done) -> Option<u32>
-        ensures { (g : Geometry) (h : List Entry) → StandsFor self.now g h → result ≡ broken (rules g h (cache_of g h) (Entry.Did id done.now)) }
+        ensures { Judges self.now (Entry.Did id done.now) result }
     {
         if !self.steps.is_new(id) {
             return Some(2);
@@ -51,7 +51,7 @@ impl Machine {
 
     // Rule 3.
     fn has_step_answer(&self, done: &Done) -> bool
-        ensures { (g : Geometry) (h : List Entry) → StandsFor self.now g h → result ≡ has_step_answer g h (cache_of g h) done.now }
+        ensures { Tells self.now (λ g h. has_step_answer g h (cache_of g h) done.now) result }
     {
         match done {
             Done::Store(put, answer) => {
@@ -75,8 +75,7 @@ impl Machine {
     }
 
     pub fn broken_by_look(&self, id: Id, key: &Key, residence: Residence) -> Option<u32>
-        ensures { (g : Geometry) (h : List Entry) (look : Look) → StandsFor self.now g h
-            → result ≡ broken (rules g h (cache_of g h) (Entry.Looked id key.now look residence)) }
+        ensures { (look : Look) → Judges self.now (Entry.Looked id key.now look residence) result }
     {
         if !self.steps.is_new(id) {
             return Some(2);
@@ -86,7 +85,7 @@ impl Machine {
 
     // Whether a lookup of an item with this label is open.
     fn is_lookup_of(&self, id: Id, label: Label) -> bool
-        ensures { (g : Geometry) (h : List Entry) → StandsFor self.now g h → result ≡ is_lookup_of label (open_lookup g id h) }
+        ensures { Tells self.now (λ g h. is_lookup_of label (open_lookup g id h)) result }
     {
         match self.lookups.get(id) {
             None => false,
@@ -95,14 +94,14 @@ impl Machine {
     }
 
     pub fn broken_by_buffer(&self, id: Id, place: Place) -> Option<u32>
-        ensures { (g : Geometry) (h : List Entry) → StandsFor self.now g h → result ≡ broken (rules g h (cache_of g h) (Entry.FromBuffer id place)) }
+        ensures { Judges self.now (Entry.FromBuffer id place) result }
     {
         unless(self.may_be_buffered(id, place), 5)
     }
 
     // Rule 5.
     fn may_be_buffered(&self, id: Id, place: Place) -> bool
-        ensures { (g : Geometry) (h : List Entry) → StandsFor self.now g h → result ≡ may_be_buffered g h id place }
+        ensures { Tells self.now (λ g h. may_be_buffered g h id place) result }
     {
         self.is_lookup_of(id, place.label)
             && !self.pages.has_ended(place.label)
@@ -111,14 +110,13 @@ impl Machine {
 
     // Whether a good write of the place's label overlaps the place.
     fn is_written_over(&self, place: Place) -> bool
-        ensures { (g : Geometry) (h : List Entry) → StandsFor self.now g h → result ≡ list_any (ends_write_over place) h }
+        ensures { Tells self.now (λ g h. list_any (ends_write_over place) h) result }
     {
         self.writes.is_written_over(self.geometry.page_size, place)
     }
 
     pub fn broken_by_read_begin(&self, id: Id, place: Place) -> Option<u32>
-        ensures { (g : Geometry) (h : List Entry) (reader : ℕ) → StandsFor self.now g h
-            → result ≡ broken (rules g h (cache_of g h) (Entry.ReadBegan id place reader)) }
+        ensures { (reader : ℕ) → Judges self.now (Entry.ReadBegan id place reader) result }
     {
         let holds = self.pages.is_in_use(place.label)
             && self.reads.get(id).is_none()
@@ -127,13 +125,13 @@ impl Machine {
     }
 
     pub fn broken_by_read_end(&self, id: Id, outcome: &Option<Blob>) -> Option<u32>
-        ensures { (g : Geometry) (h : List Entry) → StandsFor self.now g h → result ≡ broken (rules g h (cache_of g h) (Entry.ReadEnded id outcome.now)) }
+        ensures { Judges self.now (Entry.ReadEnded id outcome.now) result }
     {
         unless(self.reads.may_end(id, outcome), 7)
     }
 
     pub fn broken_by_close(&self, id: Id, close: &Close) -> Option<u32>
-        ensures { (g : Geometry) (h : List Entry) → StandsFor self.now g h → result ≡ broken (rules g h (cache_of g h) (Entry.Closed id close.now)) }
+        ensures { Judges self.now (Entry.Closed id close.now) result }
     {
         match close {
             Close::Hit(flags, cas, value) => unless(self.is_hit(id, *flags, *cas, value), 8),
@@ -145,8 +143,7 @@ impl Machine {
 
     // Rule 8.
     fn is_hit(&self, id: Id, flags: u32, cas: u64, value: &Blob) -> bool
-        ensures { (g : Geometry) (h : List Entry) → StandsFor self.now g h
-            → result ≡ is_open_and (is_hit_of h id flags cas value.now) (open_lookup g id h) }
+        ensures { Tells self.now (λ g h. is_open_and (is_hit_of h id flags cas value.now) (open_lookup g id h)) result }
     {
         match self.lookups.get(id) {
             None => false,
@@ -162,7 +159,7 @@ impl Machine {
 
     // Rule 9.
     fn is_lost_by_end(&self, id: Id) -> bool
-        ensures { (g : Geometry) (h : List Entry) → StandsFor self.now g h → result ≡ is_open_and (is_lost_by_end h id) (open_lookup g id h) }
+        ensures { Tells self.now (λ g h. is_open_and (is_lost_by_end h id) (open_lookup g id h)) result }
     {
         match self.lookups.get(id) {
             None => false,
@@ -172,14 +169,14 @@ impl Machine {
 
     // Rule 10.
     fn is_lost_by_fault(&self, id: Id) -> bool
-        ensures { (g : Geometry) (h : List Entry) → StandsFor self.now g h → result ≡ is_open_and (is_lost_by_fault h id) (open_lookup g id h) }
+        ensures { Tells self.now (λ g h. is_open_and (is_lost_by_fault h id) (open_lookup g id h)) result }
     {
         self.lookups.get(id).is_some() && has_failed(self.reads.get(id))
     }
 
     // Rule 11.
     fn is_lost_by_damage(&self, id: Id) -> bool
-        ensures { (g : Geometry) (h : List Entry) → StandsFor self.now g h → result ≡ is_open_and (is_lost_by_damage h id) (open_lookup g id h) }
+        ensures { Tells self.now (λ g h. is_open_and (is_lost_by_damage h id) (open_lookup g id h)) result }
     {
         match self.lookups.get(id) {
             None => false,
@@ -188,14 +185,14 @@ impl Machine {
     }
 
     pub fn broken_by_move(&self, key: &Key, cas: u64, label: Label) -> Option<u32>
-        ensures { (g : Geometry) (h : List Entry) → StandsFor self.now g h → result ≡ broken (rules g h (cache_of g h) (Entry.Moved key.now cas label)) }
+        ensures { Judges self.now (Entry.Moved key.now cas label) result }
     {
         let holds = has_cas(self.cache.live(&self.pages, key), cas) && self.pages.is_in_use(label);
         unless(holds, 12)
     }
 
     pub fn broken_by_recache(&self, key: &Key, cas: u64) -> Option<u32>
-        ensures { (g : Geometry) (h : List Entry) → StandsFor self.now g h → result ≡ broken (rules g h (cache_of g h) (Entry.Recached key.now cas)) }
+        ensures { Judges self.now (Entry.Recached key.now cas) result }
     {
         let live = self.cache.live(&self.pages, key);
         unless(
@@ -205,7 +202,7 @@ impl Machine {
     }
 
     pub fn broken_by_drop(&self, key: &Key, cause: DropCause) -> Option<u32>
-        ensures { (g : Geometry) (h : List Entry) → StandsFor self.now g h → result ≡ broken (rules g h (cache_of g h) (Entry.Dropped key.now cause)) }
+        ensures { Judges self.now (Entry.Dropped key.now cause) result }
     {
         let Some(item) = self.cache.items.get(key) else {
             return Some(14);
@@ -219,7 +216,7 @@ impl Machine {
     }
 
     fn was_damaged(&self, key: &Key, item: &Item) -> bool
-        ensures { (g : Geometry) (h : List Entry) → StandsFor self.now g h → result ≡ was_damaged g h key.now item.now.cas item.now.label }
+        ensures { Tells self.now (λ g h. was_damaged g h key.now item.now.cas item.now.label) result }
     {
         match item.label {
             None => false,
@@ -228,28 +225,28 @@ impl Machine {
     }
 
     pub fn broken_by_write_begin(&self, place: Place) -> Option<u32>
-        ensures { (g : Geometry) (h : List Entry) → StandsFor self.now g h → result ≡ broken (rules g h (cache_of g h) (Entry.WriteBegan place)) }
+        ensures { Judges self.now (Entry.WriteBegan place) result }
     {
         unless(self.may_write_begin(place), 19)
     }
 
     // Rule 19.
     fn may_write_begin(&self, place: Place) -> bool
-        ensures { (g : Geometry) (h : List Entry) → StandsFor self.now g h → result ≡ may_write_begin g h place }
+        ensures { Tells self.now (λ g h. may_write_begin g h place) result }
     {
         self.pages.is_in_use(place.label) && self.is_block(place) && self.is_none_or(place)
     }
 
     // Whether no write is open but one of this place.
     fn is_none_or(&self, place: Place) -> bool
-        ensures { (g : Geometry) (h : List Entry) → StandsFor self.now g h → result ≡ is_none_or place (open_write h) }
+        ensures { Tells self.now (λ g h. is_none_or place (open_write h)) result }
     {
         self.writes.is_none_or(place)
     }
 
     // Whether a place is one block of a page.
     fn is_block(&self, place: Place) -> bool
-        ensures { (g : Geometry) (h : List Entry) → StandsFor self.now g h → result ≡ is_block g place }
+        ensures { Tells self.now (λ g h. is_block g place) result }
     {
         place.length == self.geometry.buffer_size
             && place
@@ -262,26 +259,26 @@ impl Machine {
     }
 
     pub fn broken_by_write_end(&self, place: Place, outcome: &Option<Blob>) -> Option<u32>
-        ensures { (g : Geometry) (h : List Entry) → StandsFor self.now g h → result ≡ broken (rules g h (cache_of g h) (Entry.WriteEnded place outcome.now)) }
+        ensures { Judges self.now (Entry.WriteEnded place outcome.now) result }
     {
         unless(self.may_write_end(place, outcome), 20)
     }
 
     // Rule 20.
     fn may_write_end(&self, place: Place, outcome: &Option<Blob>) -> bool
-        ensures { (g : Geometry) (h : List Entry) → StandsFor self.now g h → result ≡ may_write_end h place outcome.now }
+        ensures { Tells self.now (λ g h. may_write_end h place outcome.now) result }
     {
         self.writes.may_end(place, outcome)
     }
 
     pub fn broken_by_open(&self, label: Label) -> Option<u32>
-        ensures { (g : Geometry) (h : List Entry) → StandsFor self.now g h → result ≡ broken (rules g h (cache_of g h) (Entry.Opened label)) }
+        ensures { Judges self.now (Entry.Opened label) result }
     {
         unless(self.pages.may_be_opened(&self.geometry, label), 21)
     }
 
     pub fn broken_by_end(&self, label: Label, cause: EndCause) -> Option<u32>
-        ensures { (g : Geometry) (h : List Entry) → StandsFor self.now g h → result ≡ broken (rules g h (cache_of g h) (Entry.Ended label cause)) }
+        ensures { Judges self.now (Entry.Ended label cause) result }
     {
         if !self.pages.is_in_use(label) {
             return Some(22);
@@ -295,16 +292,14 @@ impl Machine {
 
     // Rule 23.
     fn is_left(&self, label: Label) -> bool
-        ensures { (g : Geometry) (h : List Entry) → StandsFor self.now g h
-            → result ≡ not (list_any (is_labelled label) (map.entries (cache_of g h).items)) }
+        ensures { Tells self.now (λ g h. not (list_any (is_labelled label) (map.entries (cache_of g h).items))) result }
     {
         self.cache.items.labelled(label) == 0
     }
 
     // Rule 24.
     fn may_be_evicted(&self, label: Label) -> bool
-        ensures { (g : Geometry) (h : List Entry) → StandsFor self.now g h
-            → result ≡ (nat_le (free_pages g h) g.drop_under && is_written g label h) }
+        ensures { Tells self.now (λ g h. (nat_le (free_pages g h) g.drop_under && is_written g label h)) result }
     {
         self.pages.free() <= self.geometry.drop_under
             && self.writes.is_written(self.geometry.page_size, label)
@@ -312,13 +307,13 @@ impl Machine {
 
     // Rule 25.
     fn has_failed(&self, label: Label) -> bool
-        ensures { (g : Geometry) (h : List Entry) → StandsFor self.now g h → result ≡ is_failure (last_write label h) }
+        ensures { Tells self.now (λ g h. is_failure (last_write label h)) result }
     {
         self.writes.has_failed(label)
     }
 
     pub fn broken_by_free(&self, label: Label) -> Option<u32>
-        ensures { (g : Geometry) (h : List Entry) → StandsFor self.now g h → result ≡ broken (rules g h (cache_of g h) (Entry.Freed label)) }
+        ensures { Judges self.now (Entry.Freed label) result }
     {
         unless(self.pages.is_over(label), 26)
     }

@@ -1,4 +1,4 @@
-ghost use Rattle.std.specs.Prelude.{◌≡◌, ℕ, ◌+◌, ◌≤◌, ◌<◌, [], OnOk, OnErr, if◌then◌else◌};
+ghost use Rattle.std.specs.Prelude.{◌≡◌, ◌+◌, ◌<◌, OnOk, OnErr, if◌then◌else◌};
 ghost use Rattle.flash_machine.specs.PageLabels.{is_label};
 ghost use Rattle.flash_machine.specs.Followed.{label_count};
 

@@ -1,13 +1,13 @@
-ghost use Rattle.std.specs.Prelude.{◌≡◌, ℕ, [], ◌∷◌, ◌++◌, None, Some, IsTrue, OnOk, OnErr, List, Option, ◌||◌, ◌&&◌, if◌then◌else◌};
+ghost use Rattle.std.specs.Prelude.{◌≡◌, ℕ, [], ◌∷◌, ◌++◌, Some, OnOk, OnErr, List, Option, ◌||◌, ◌&&◌, if◌then◌else◌};
 ghost use Rattle.std.specs.Option.{option_copied};
 ghost use Rattle.std.specs.List.{list_any};
 ghost use Rattle.flash_names.specs.declared.geometry.Geometry.{Geometry};
 ghost use Rattle.flash_entry.specs.declared.entry.Entry.{Entry};
-ghost use Rattle.flash_machine.specs.Lookups.{open_lookup, closings, was_from_buffer, opened_by, lookup_step};
+ghost use Rattle.flash_machine.specs.Lookups.{open_lookup, closings, was_from_buffer, lookup_step};
 ghost use Rattle.flash_machine.specs.Rules.{is_hit, is_damage, is_hit_on, is_damage_on};
-ghost use Rattle.flash_machine.specs.Live.{live_item};
 ghost use Rattle.flash_machine.specs.Steps.{cache_of};
-ghost use Rattle.flash_machine.specs.Followed.{FollowsLookups, same_value, same_damage, same_pair, is_found_on, is_found_at, ClosesNone};
+ghost use Rattle.flash_machine.specs.Followed.{FollowsLookups, same_value, same_damage, same_pair, is_found_on};
+ghost use Rattle.flash_machine.specs.Followed.{is_found_at, ClosesNone};
 ghost use Rattle.flash_machine.specs.Lookups.{same_id};
 ghost use Rattle.std.specs.HashMap as hash;
 ghost use Rattle.std.specs.HashSet as set;
@@ -107,7 +107,8 @@ impl LookupTable {
     pub fn take_from_buffer(&mut self, id: Id) -> Result<(), AllocError>
         ensures taken { OnOk result ((g : Geometry) (h : List Entry) (place : Place) → FollowsLookups self.old g h
             → FollowsLookups self.new g (h ++ Entry.FromBuffer id place ∷ [])) }
-        ensures refused { OnErr result ((g : Geometry) (h : List Entry) → FollowsLookups self.old g h → FollowsLookups self.new g h) }
+        ensures refused { OnErr result ((g : Geometry) (h : List Entry) → FollowsLookups self.old g h
+            → FollowsLookups self.new g h) }
     {
         self.buffered.insert((id.pass, id.seq))?;
         Ok(())
@@ -116,7 +117,8 @@ impl LookupTable {
     pub fn close(&mut self, id: Id, close: &Close) -> Result<(), AllocError>
         ensures closed { OnOk result ((g : Geometry) (h : List Entry) → FollowsLookups self.old g h
             → FollowsLookups self.new g (h ++ Entry.Closed id close.now ∷ [])) }
-        ensures refused { OnErr result ((g : Geometry) (h : List Entry) → FollowsLookups self.old g h → FollowsLookups self.new g h) }
+        ensures refused { OnErr result ((g : Geometry) (h : List Entry) → FollowsLookups self.old g h
+            → FollowsLookups self.new g h) }
     {
         self.note_closing(id, close)?;
         let _ = self.open.remove(&(id.pass, id.seq));
@@ -152,7 +154,8 @@ impl LookupTable {
         ensures buffered { self.new.buffered ≡ self.old.buffered }
         ensures damaged { self.new.damaged ≡ self.old.damaged }
         ensures noted { OnOk result ((key : List ℕ) (cas : ℕ) → set.contains same_value self.new.hits (key, cas)
-            ≡ (set.contains same_value self.old.hits (key, cas) || is_found_on key cas (hash.get same_pair self.old.open (id.pass, id.seq)))) }
+            ≡ (set.contains same_value self.old.hits (key, cas)
+            || is_found_on key cas (hash.get same_pair self.old.open (id.pass, id.seq)))) }
         ensures refused { OnErr result ((key : List ℕ) (cas : ℕ) → set.contains same_value self.new.hits (key, cas)
             ≡ set.contains same_value self.old.hits (key, cas)) }
     {

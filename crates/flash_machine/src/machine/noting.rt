@@ -1,10 +1,8 @@
 // How the machine takes a legal entry.
-ghost use Rattle.std.specs.Prelude.{◌≡◌, ℕ, [], ◌∷◌, ◌++◌, None, Some, IsTrue, OnOk, OnErr, List, Option};
+ghost use Rattle.std.specs.Prelude.{◌≡◌, ℕ, IsTrue, OnOk, OnErr, List, Option};
 ghost use Rattle.flash_names.specs.declared.geometry.Geometry.{Geometry};
 ghost use Rattle.flash_entry.specs.declared.entry.Entry.{Entry};
-ghost use Rattle.flash_machine.specs.Steps.{cache_of};
 ghost use Rattle.flash_machine.specs.Rules.{is_found};
-ghost use Rattle.flash_machine.specs.Legal.{Meets};
 ghost use Rattle.std.specs.Prelude.{IfOk};
 ghost use Rattle.std.specs.Option.{option_or};
 ghost use Rattle.flash_machine.specs.Cache.{Cache};
@@ -12,7 +10,7 @@ ghost use Rattle.flash_machine.specs.Live.{live_item};
 ghost use Rattle.flash_machine.specs.Lookups.{opened_by};
 ghost use Rattle.flash_machine.specs.Steps.{done_next};
 ghost use Rattle.flash_machine.specs.Followed.{FollowsCache, FollowsPages};
-ghost use Rattle.flash_machine.specs.Stands.{StandsFor};
+ghost use Rattle.flash_machine.specs.Stands.{Takes, StandsOn};
 
 use crate::machine::Machine;
 use crate::machine::lookup_table::Lookup;
@@ -22,16 +20,14 @@ use std::alloc::{AllocError, Global};
 
 impl Machine {
     pub fn note_clock(&mut self, moment: u64)
-        ensures { (g : Geometry) (h : List Entry) → StandsFor self.old g h → Meets g h (cache_of g h) (Entry.Clock moment)
-            → StandsFor self.new g (h ++ Entry.Clock moment ∷ []) }
+        ensures { Takes self.old (Entry.Clock moment) self.new }
     {
         self.cache.set_clock(moment);
     }
 
     pub fn note_did(&mut self, alloc: Global, id: Id, done: &Done) -> Result<(), AllocError>
-        ensures noted { OnOk result ((g : Geometry) (h : List Entry) → StandsFor self.old g h → Meets g h (cache_of g h) (Entry.Did id done.now)
-            → StandsFor self.new g (h ++ Entry.Did id done.now ∷ [])) }
-        ensures refused { OnErr result ((g : Geometry) (h : List Entry) → StandsFor self.old g h → StandsFor self.new g h) }
+        ensures noted { OnOk result (Takes self.old (Entry.Did id done.now) self.new) }
+        ensures refused { OnErr result (StandsOn self.old self.new) }
     {
         self.steps.reserve()?;
         self.do_step(alloc, done)?;
@@ -48,7 +44,8 @@ impl Machine {
         ensures reads { self.new.reads ≡ self.old.reads }
         ensures writes { self.new.writes ≡ self.old.writes }
         ensures noted { OnOk result ((g : Geometry) (h : List Entry) (c : Cache) → self.old.geometry ≡ g
-            → FollowsPages self.old.pages g h → FollowsCache self.old.cache c → FollowsCache self.new.cache (done_next g h c done.now)) }
+            → FollowsPages self.old.pages g h → FollowsCache self.old.cache c
+            → FollowsCache self.new.cache (done_next g h c done.now)) }
         ensures refused { OnErr result ((c : Cache) → FollowsCache self.old.cache c → FollowsCache self.new.cache c) }
     {
         match done {
@@ -74,10 +71,8 @@ impl Machine {
         look: Look,
         residence: Residence,
     ) -> Result<(), AllocError>
-        ensures noted { OnOk result ((g : Geometry) (h : List Entry) → StandsFor self.old g h
-            → Meets g h (cache_of g h) (Entry.Looked id key.now look residence)
-            → StandsFor self.new g (h ++ Entry.Looked id key.now look residence ∷ [])) }
-        ensures refused { OnErr result ((g : Geometry) (h : List Entry) → StandsFor self.old g h → StandsFor self.new g h) }
+        ensures noted { OnOk result (Takes self.old (Entry.Looked id key.now look residence) self.new) }
+        ensures refused { OnErr result (StandsOn self.old self.new) }
     {
         self.steps.reserve()?;
         self.lookups.reserve()?;
@@ -116,17 +111,15 @@ impl Machine {
     }
 
     pub fn note_buffer(&mut self, id: Id, place: Place) -> Result<(), AllocError>
-        ensures noted { OnOk result ((g : Geometry) (h : List Entry) → StandsFor self.old g h
-            → StandsFor self.new g (h ++ Entry.FromBuffer id place ∷ [])) }
-        ensures refused { OnErr result ((g : Geometry) (h : List Entry) → StandsFor self.old g h → StandsFor self.new g h) }
+        ensures noted { OnOk result (Takes self.old (Entry.FromBuffer id place) self.new) }
+        ensures refused { OnErr result (StandsOn self.old self.new) }
     {
         self.lookups.take_from_buffer(id)
     }
 
     pub fn note_read_begin(&mut self, id: Id, place: Place) -> Result<(), AllocError>
-        ensures noted { OnOk result ((g : Geometry) (h : List Entry) (reader : ℕ) → StandsFor self.old g h
-            → StandsFor self.new g (h ++ Entry.ReadBegan id place reader ∷ [])) }
-        ensures refused { OnErr result ((g : Geometry) (h : List Entry) → StandsFor self.old g h → StandsFor self.new g h) }
+        ensures noted { OnOk result ((reader : ℕ) → Takes self.old (Entry.ReadBegan id place reader) self.new) }
+        ensures refused { OnErr result (StandsOn self.old self.new) }
     {
         self.reads.begin(id, place)
     }
@@ -137,9 +130,8 @@ impl Machine {
         id: Id,
         outcome: &Option<Blob>,
     ) -> Result<(), AllocError>
-        ensures noted { OnOk result ((g : Geometry) (h : List Entry) → StandsFor self.old g h
-            → StandsFor self.new g (h ++ Entry.ReadEnded id outcome.now ∷ [])) }
-        ensures refused { OnErr result ((g : Geometry) (h : List Entry) → StandsFor self.old g h → StandsFor self.new g h) }
+        ensures noted { OnOk result (Takes self.old (Entry.ReadEnded id outcome.now) self.new) }
+        ensures refused { OnErr result (StandsOn self.old self.new) }
     {
         let copy = copy_of(alloc, outcome)?;
         self.reads.end(id, copy);
@@ -147,70 +139,61 @@ impl Machine {
     }
 
     pub fn note_close(&mut self, id: Id, close: &Close) -> Result<(), AllocError>
-        ensures noted { OnOk result ((g : Geometry) (h : List Entry) → StandsFor self.old g h
-            → StandsFor self.new g (h ++ Entry.Closed id close.now ∷ [])) }
-        ensures refused { OnErr result ((g : Geometry) (h : List Entry) → StandsFor self.old g h → StandsFor self.new g h) }
+        ensures noted { OnOk result (Takes self.old (Entry.Closed id close.now) self.new) }
+        ensures refused { OnErr result (StandsOn self.old self.new) }
     {
         self.lookups.close(id, close)
     }
 
     pub fn note_move(&mut self, key: &Key, label: Label) -> Result<(), AllocError>
-        ensures noted { OnOk result ((g : Geometry) (h : List Entry) (cas : ℕ) → StandsFor self.old g h
-            → StandsFor self.new g (h ++ Entry.Moved key.now cas label ∷ [])) }
-        ensures refused { OnErr result ((g : Geometry) (h : List Entry) → StandsFor self.old g h → StandsFor self.new g h) }
+        ensures noted { OnOk result ((cas : ℕ) → Takes self.old (Entry.Moved key.now cas label) self.new) }
+        ensures refused { OnErr result (StandsOn self.old self.new) }
     {
         self.cache.set_label(key, Some(label))
     }
 
     pub fn note_recache(&mut self, key: &Key) -> Result<(), AllocError>
-        ensures noted { OnOk result ((g : Geometry) (h : List Entry) (cas : ℕ) → StandsFor self.old g h
-            → StandsFor self.new g (h ++ Entry.Recached key.now cas ∷ [])) }
-        ensures refused { OnErr result ((g : Geometry) (h : List Entry) → StandsFor self.old g h → StandsFor self.new g h) }
+        ensures noted { OnOk result ((cas : ℕ) → Takes self.old (Entry.Recached key.now cas) self.new) }
+        ensures refused { OnErr result (StandsOn self.old self.new) }
     {
         self.cache.set_label(key, None)
     }
 
     pub fn note_drop(&mut self, key: &Key)
-        ensures { (g : Geometry) (h : List Entry) (cause : DropCause) → StandsFor self.old g h
-            → StandsFor self.new g (h ++ Entry.Dropped key.now cause ∷ []) }
+        ensures { (cause : DropCause) → Takes self.old (Entry.Dropped key.now cause) self.new }
     {
         self.cache.remove(key);
     }
 
     pub fn note_write_begin(&mut self, place: Place)
-        ensures { (g : Geometry) (h : List Entry) → StandsFor self.old g h → Meets g h (cache_of g h) (Entry.WriteBegan place)
-            → StandsFor self.new g (h ++ Entry.WriteBegan place ∷ []) }
+        ensures { Takes self.old (Entry.WriteBegan place) self.new }
     {
         self.writes.begin(place);
     }
 
     pub fn note_write_end(&mut self, place: Place, outcome: &Option<Blob>) -> Result<(), AllocError>
-        ensures noted { OnOk result ((g : Geometry) (h : List Entry) → StandsFor self.old g h → Meets g h (cache_of g h) (Entry.WriteEnded place outcome.now)
-            → StandsFor self.new g (h ++ Entry.WriteEnded place outcome.now ∷ [])) }
-        ensures refused { OnErr result ((g : Geometry) (h : List Entry) → StandsFor self.old g h → StandsFor self.new g h) }
+        ensures noted { OnOk result (Takes self.old (Entry.WriteEnded place outcome.now) self.new) }
+        ensures refused { OnErr result (StandsOn self.old self.new) }
     {
         self.writes.end(place, outcome)
     }
 
     pub fn note_open(&mut self, label: Label) -> Result<(), AllocError>
-        ensures noted { OnOk result ((g : Geometry) (h : List Entry) → StandsFor self.old g h → Meets g h (cache_of g h) (Entry.Opened label)
-            → StandsFor self.new g (h ++ Entry.Opened label ∷ [])) }
-        ensures refused { OnErr result ((g : Geometry) (h : List Entry) → StandsFor self.old g h → StandsFor self.new g h) }
+        ensures noted { OnOk result (Takes self.old (Entry.Opened label) self.new) }
+        ensures refused { OnErr result (StandsOn self.old self.new) }
     {
         self.pages.open(label)
     }
 
     pub fn note_end(&mut self, label: Label) -> Result<(), AllocError>
-        ensures noted { OnOk result ((g : Geometry) (h : List Entry) (cause : EndCause) → StandsFor self.old g h
-            → StandsFor self.new g (h ++ Entry.Ended label cause ∷ [])) }
-        ensures refused { OnErr result ((g : Geometry) (h : List Entry) → StandsFor self.old g h → StandsFor self.new g h) }
+        ensures noted { OnOk result ((cause : EndCause) → Takes self.old (Entry.Ended label cause) self.new) }
+        ensures refused { OnErr result (StandsOn self.old self.new) }
     {
         self.pages.end(label)
     }
 
     pub fn note_free(&mut self, label: Label)
-        ensures { (g : Geometry) (h : List Entry) → StandsFor self.old g h → Meets g h (cache_of g h) (Entry.Freed label)
-            → StandsFor self.new g (h ++ Entry.Freed label ∷ []) }
+        ensures { Takes self.old (Entry.Freed label) self.new }
     {
         self.pages.free_page(label);
     }

@@ -1,8 +1,7 @@
-ghost use Rattle.std.specs.Prelude.{◌≡◌, ℕ, ◌<◌, ◌≤◌, [], ◌∷◌, ◌++◌, None, Some, IsTrue, IfErr, IfOk, OnOk, OnErr, List, nat_eq};
-ghost use Rattle.flash_names.specs.Labels.{same_label};
+ghost use Rattle.std.specs.Prelude.{◌≡◌, ◌<◌, [], ◌∷◌, ◌++◌, Some, IsTrue, OnOk, OnErr, List};
 ghost use Rattle.flash_entry.specs.declared.entry.Entry.{Entry};
 ghost use Rattle.flash_machine.specs.Live.{label_has_ended};
-ghost use Rattle.flash_machine.specs.PageLabels.{page_label, is_label, last_version, free_pages, is_in_use, is_over};
+ghost use Rattle.flash_machine.specs.PageLabels.{page_label, is_label, free_pages, is_in_use, is_over};
 ghost use Rattle.flash_machine.specs.Rules.{may_be_opened};
 ghost use Rattle.flash_machine.specs.Followed.{FollowsPages};
 
@@ -43,13 +42,15 @@ impl PageTable {
     }
 
     pub fn has_ended(&self, label: Label) -> bool
-        ensures { (g : Geometry) (h : List Entry) → FollowsPages self.now g h → result ≡ label_has_ended h (Some label) }
+        ensures { (g : Geometry) (h : List Entry) → FollowsPages self.now g h
+            → result ≡ label_has_ended h (Some label) }
     {
         self.ended.contains(&(label.page, label.version))
     }
 
     fn has_label(&self, label: Label) -> bool
-        ensures { (g : Geometry) (h : List Entry) → FollowsPages self.now g h → result ≡ is_label label (page_label label.page h) }
+        ensures { (g : Geometry) (h : List Entry) → FollowsPages self.now g h
+            → result ≡ is_label label (page_label label.page h) }
     {
         match self.labels.get(&label.page) {
             None => false,
@@ -72,7 +73,8 @@ impl PageTable {
 
     // Rule 21.
     pub fn may_be_opened(&self, geometry: &Geometry, label: Label) -> bool
-        ensures { (h : List Entry) → FollowsPages self.now geometry.now h → result ≡ may_be_opened geometry.now h label }
+        ensures { (h : List Entry) → FollowsPages self.now geometry.now h
+            → result ≡ may_be_opened geometry.now h label }
     {
         label.version <= LAST_VERSION
             && label.version.checked_sub(1) == Some(self.last_version)
@@ -81,9 +83,11 @@ impl PageTable {
     }
 
     pub fn open(&mut self, label: Label) -> Result<(), AllocError>
-        ensures opened { OnOk result ((g : Geometry) (h : List Entry) → FollowsPages self.old g h → IsTrue (may_be_opened g h label)
+        ensures opened { OnOk result ((g : Geometry) (h : List Entry) → FollowsPages self.old g h
+            → IsTrue (may_be_opened g h label)
             → FollowsPages self.new g (h ++ Entry.Opened label ∷ [])) }
-        ensures refused { OnErr result ((g : Geometry) (h : List Entry) → FollowsPages self.old g h → FollowsPages self.new g h) }
+        ensures refused { OnErr result ((g : Geometry) (h : List Entry) → FollowsPages self.old g h
+            → FollowsPages self.new g h) }
     {
         self.labels.insert(label.page, label)?;
         self.last_version = label.version;
@@ -94,7 +98,8 @@ impl PageTable {
     pub fn end(&mut self, label: Label) -> Result<(), AllocError>
         ensures ended { OnOk result ((g : Geometry) (h : List Entry) (cause : EndCause) → FollowsPages self.old g h
             → FollowsPages self.new g (h ++ Entry.Ended label cause ∷ [])) }
-        ensures refused { OnErr result ((g : Geometry) (h : List Entry) → FollowsPages self.old g h → FollowsPages self.new g h) }
+        ensures refused { OnErr result ((g : Geometry) (h : List Entry) → FollowsPages self.old g h
+            → FollowsPages self.new g h) }
     {
         self.ended.insert((label.page, label.version))?;
         Ok(())

@@ -1,7 +1,7 @@
-ghost use Rattle.std.specs.Prelude.{◌≡◌, ℕ, [], ◌∷◌, ◌++◌, None, Some, IsTrue, OnOk, OnErr, List, is_none, Option};
+ghost use Rattle.std.specs.Prelude.{◌≡◌, ℕ, [], ◌∷◌, ◌++◌, OnOk, OnErr, List};
 ghost use Rattle.flash_entry.specs.declared.entry.Entry.{Entry};
 ghost use Rattle.flash_machine.specs.DeviceReads.{read_of};
-ghost use Rattle.flash_machine.specs.Rules.{may_read_end, has_failed};
+ghost use Rattle.flash_machine.specs.Rules.{may_read_end};
 ghost use Rattle.std.specs.Option.{option_copied};
 ghost use Rattle.flash_machine.specs.Rules.{has_length};
 ghost use Rattle.flash_machine.specs.Followed.{FollowsReads};

@@ -1,12 +1,14 @@
 // The steps that store a value.
-ghost use Rattle.std.specs.Prelude.{◌≡◌, ℕ, ◌+◌, ◌<◌, ◌≤◌, ◌^◌, ◌++◌, None, Some, IsNone, IfOk, OnOk, OnErr, List, Option, length, nat_lt, is_none};
+ghost use Rattle.std.specs.Prelude.{◌≡◌, ◌+◌, ◌<◌, ◌≤◌, ◌^◌, ◌++◌, None, Some, IsNone, IfOk, OnOk, OnErr, List, length};
+ghost use Rattle.std.specs.Prelude.{nat_lt};
 ghost use Rattle.std.specs.Option.{option_copied};
 ghost use Rattle.flash_names.specs.declared.geometry.Geometry.{Geometry};
 ghost use Rattle.flash_entry.specs.declared.entry.Entry.{Entry};
 ghost use Rattle.flash_machine.specs.Cache.{Cache};
 ghost use Rattle.flash_machine.specs.Item as spec;
 ghost use Rattle.flash_machine.specs.Live.{live_item};
-ghost use Rattle.flash_machine.specs.Storing.{can_join, mode_fails, compare_refusal, stored_value, stored_item, with_stored, size_refusal, refusal, store_step};
+ghost use Rattle.flash_machine.specs.Storing.{can_join, mode_fails, compare_refusal, stored_value, stored_item};
+ghost use Rattle.flash_machine.specs.Storing.{with_stored, refusal, store_step};
 ghost use Rattle.flash_machine.specs.Same.{same_stored};
 ghost use Rattle.flash_machine.specs.Followed.{FollowsCache, FollowsPages};
 
@@ -25,7 +27,8 @@ pub const LAST_NUMBER: u64 = 1 << 63;
 impl CacheTable {
     // Why the value isn't stored, if it isn't.
     fn refusal(&self, geometry: &Geometry, put: &Put, live: Option<&Item>) -> Option<Stored>
-        ensures exact { (c : Cache) → FollowsCache self.now c → result ≡ refusal geometry.now c put.now (option_copied live.entry) }
+        ensures exact { (c : Cache) → FollowsCache self.now c
+            → result ≡ refusal geometry.now c put.now (option_copied live.entry) }
         ensures room { IsNone result → self.now.last_cas < 2 ^ 63 }
     {
         if mode_fails(put.mode, live) {
@@ -98,7 +101,8 @@ impl CacheTable {
         pages: &PageTable,
         put: &Put,
     ) -> Result<(), AllocError>
-        ensures stored { OnOk result ((g : Geometry) (h : List Entry) (c : Cache) → FollowsPages pages.now g h → FollowsCache self.old c
+        ensures stored { OnOk result ((g : Geometry) (h : List Entry) (c : Cache) → FollowsPages pages.now g h
+            → FollowsCache self.old c
             → FollowsCache self.new (store_step geometry.now c put.now (live_item h c put.now.key)).1) }
         ensures refused { OnErr result ((c : Cache) → FollowsCache self.old c → FollowsCache self.new c) }
     {
@@ -198,7 +202,8 @@ fn concatenated(alloc: Global, front: &[u8], back: &[u8]) -> Result<Blob, AllocE
 // The flags and the deadline of the item that is stored: those of the item that a value is joined to, and
 // else those of the command.
 fn flags_and_deadline(now: u64, put: &Put, live: Option<&Item>) -> (u32, Option<u64>)
-    ensures { (c : Cache) → c.now ≡ now → now ≤ 2 ^ 62 → let item = stored_item c put.now put.now.mode (option_copied live.entry) in
+    ensures { (c : Cache) → c.now ≡ now → now ≤ 2 ^ 62
+        → let item = stored_item c put.now put.now.mode (option_copied live.entry) in
         (result.0 ≡ item.flags) × (result.1 ≡ item.deadline) }
 {
     match (put.mode, live) {

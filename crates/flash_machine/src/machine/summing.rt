@@ -1,12 +1,13 @@
 // The step of arithmetic.
-ghost use Rattle.std.specs.Prelude.{◌≡◌, ℕ, ◌<◌, ◌^◌, None, Some, IsNone, IsSome, IfSome, IsTrue, IfOk, OnOk, OnErr, List, Option, option_copied, nat_le, Bool, false, if◌then◌else◌};
+ghost use Rattle.std.specs.Prelude.{◌≡◌, ℕ, ◌<◌, ◌^◌, IsNone, IsSome, IfSome, IfOk, OnOk, OnErr, List, option_copied};
 ghost use Rattle.flash_names.specs.declared.geometry.Geometry.{Geometry};
 ghost use Rattle.flash_entry.specs.declared.entry.Entry.{Entry};
 ghost use Rattle.flash_entry.specs.declared.answer.Sum.TheVariants as answers;
 ghost use Rattle.flash_machine.specs.Cache.{Cache};
 ghost use Rattle.flash_machine.specs.Live.{live_item};
 ghost use Rattle.flash_machine.specs.Storing.{with_stored};
-ghost use Rattle.flash_machine.specs.Summing.{number_in, changed_number, number_item, changed_item, number_stored, sum_created, sum_changed, sum_step};
+ghost use Rattle.flash_machine.specs.Summing.{number_in, changed_number, number_item, sum_created, sum_changed};
+ghost use Rattle.flash_machine.specs.Summing.{sum_step};
 ghost use Rattle.flash_machine.specs.Same.{same_sum};
 ghost use Rattle.flash_machine.specs.Followed.{FollowsCache, FollowsPages, summed_as};
 
@@ -42,7 +43,8 @@ impl CacheTable {
 
     // Whether it is that where the key has no live item.
     fn is_created_answer(&self, create: Option<Create>, answer: Sum) -> bool
-        ensures { (c : Cache) (key : List ℕ) → FollowsCache self.now c → result ≡ same_sum answer (sum_created c key create).0 }
+        ensures { (c : Cache) (key : List ℕ) → FollowsCache self.now c
+            → result ≡ same_sum answer (sum_created c key create).0 }
     {
         match create {
             None => matches!(answer, Sum::NotFound),
@@ -94,7 +96,8 @@ impl CacheTable {
         deadline: Option<u64>,
         number: u64,
     ) -> Result<Item, AllocError>
-        ensures { IfOk result (λ item. (c : Cache) → FollowsCache self.now c → item ≡ number_item c flags deadline number) }
+        ensures { IfOk result (λ item. (c : Cache) → FollowsCache self.now c
+            → item ≡ number_item c flags deadline number) }
     {
         let digits = Blob::from_slice(alloc, Buffer::new().format(number).as_bytes())?;
         Ok(Item {
@@ -110,8 +113,10 @@ impl CacheTable {
 
     // What is to be stored: the flags, the deadline and the number, if something is.
     fn to_be_stored(&self, ask: &Arith, live: Option<&Item>) -> Option<(u32, Option<u64>, u64)>
-        ensures none { IsNone result → (c : Cache) → FollowsCache self.now c → (sum_step c ask.now (option_copied live.entry)).1 ≡ c }
-        ensures some { IfSome result (λ stored. (c : Cache) → FollowsCache self.now c → (sum_step c ask.now (option_copied live.entry)).1
+        ensures none { IsNone result → (c : Cache) → FollowsCache self.now c
+            → (sum_step c ask.now (option_copied live.entry)).1 ≡ c }
+        ensures some { IfSome result (λ stored. (c : Cache) → FollowsCache self.now c
+            → (sum_step c ask.now (option_copied live.entry)).1
             ≡ with_stored c ask.now.key (number_item c stored.0 stored.1 stored.2)) }
         ensures room { IsSome result → self.now.last_cas < 2 ^ 63 }
     {
@@ -136,7 +141,8 @@ impl CacheTable {
 
     // The step.
     pub fn sum(&mut self, alloc: Global, pages: &PageTable, ask: &Arith) -> Result<(), AllocError>
-        ensures summed { OnOk result ((g : Geometry) (h : List Entry) (c : Cache) → FollowsPages pages.now g h → FollowsCache self.old c
+        ensures summed { OnOk result ((g : Geometry) (h : List Entry) (c : Cache) → FollowsPages pages.now g h
+            → FollowsCache self.old c
             → FollowsCache self.new (sum_step c ask.now (live_item h c ask.now.key)).1) }
         ensures refused { OnErr result ((c : Cache) → FollowsCache self.old c → FollowsCache self.new c) }
     {

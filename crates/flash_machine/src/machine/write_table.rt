@@ -1,10 +1,11 @@
-ghost use Rattle.std.specs.Prelude.{◌≡◌, ℕ, ◌+◌, ◌*◌, ◌<◌, ◌≤◌, [], ◌∷◌, ◌++◌, true, false, None, Some, IsTrue, OnOk, OnErr, List, Option, ◌&&◌, ◌^◌, ◌-◌, ◌/◌, if◌then◌else◌};
+ghost use Rattle.std.specs.Prelude.{◌≡◌, ℕ, ◌+◌, ◌*◌, ◌<◌, [], ◌∷◌, ◌++◌, None, Some, IsTrue, OnOk, OnErr, List, ◌&&◌};
+ghost use Rattle.std.specs.Prelude.{◌^◌, ◌-◌, ◌/◌};
 ghost use Rattle.std.specs.List.{list_any};
 ghost use Rattle.flash_names.specs.declared.geometry.Geometry.{Geometry};
 ghost use Rattle.flash_entry.specs.declared.entry.Entry.{Entry};
 ghost use Rattle.flash_machine.specs.Places.{same_place};
 ghost use Rattle.flash_machine.specs.Writes.{open_write, has_good_write, is_written, last_write};
-ghost use Rattle.flash_machine.specs.Rules.{is_none_or, is_place, is_failure, is_block, may_write_end, ends_write_over};
+ghost use Rattle.flash_machine.specs.Rules.{is_none_or, is_failure, is_block, may_write_end, ends_write_over};
 ghost use Rattle.flash_machine.specs.Followed.{FollowsWrites, is_reached};
 
 use crate::machine::read_table::has_length;
@@ -36,7 +37,8 @@ impl WriteTable {
 
     // Whether no write is open but one of this place.
     pub fn is_none_or(&self, place: Place) -> bool
-        ensures { (g : Geometry) (h : List Entry) → FollowsWrites self.now g h → result ≡ is_none_or place (open_write h) }
+        ensures { (g : Geometry) (h : List Entry) → FollowsWrites self.now g h
+            → result ≡ is_none_or place (open_write h) }
     {
         match self.open {
             None => true,
@@ -46,7 +48,8 @@ impl WriteTable {
 
     // Rule 20.
     pub fn may_end(&self, place: Place, bytes: &Option<Blob>) -> bool
-        ensures { (g : Geometry) (h : List Entry) → FollowsWrites self.now g h → result ≡ may_write_end h place bytes.now }
+        ensures { (g : Geometry) (h : List Entry) → FollowsWrites self.now g h
+            → result ≡ may_write_end h place bytes.now }
     {
         match self.open {
             None => false,
@@ -56,7 +59,8 @@ impl WriteTable {
 
     // Rule 25.
     pub fn has_failed(&self, label: Label) -> bool
-        ensures { (g : Geometry) (h : List Entry) → FollowsWrites self.now g h → result ≡ is_failure (last_write label h) }
+        ensures { (g : Geometry) (h : List Entry) → FollowsWrites self.now g h
+            → result ≡ is_failure (last_write label h) }
     {
         self.failed.contains(&(label.page, label.version))
     }
@@ -80,7 +84,8 @@ impl WriteTable {
 
     // Whether each block of the label has a good write.
     pub fn is_written(&self, page_size: u32, label: Label) -> bool
-        ensures { (g : Geometry) (h : List Entry) → FollowsWrites self.now g h → g.page_size ≡ page_size → result ≡ is_written g label h }
+        ensures { (g : Geometry) (h : List Entry) → FollowsWrites self.now g h → g.page_size ≡ page_size
+            → result ≡ is_written g label h }
     {
         'scan: for index in 0..self.blocks(page_size) {
             if !self.is_block_written(label, index) {
@@ -91,9 +96,11 @@ impl WriteTable {
     }
 
     pub fn end(&mut self, place: Place, outcome: &Option<Blob>) -> Result<(), AllocError>
-        ensures ended { OnOk result ((g : Geometry) (h : List Entry) → FollowsWrites self.old g h → open_write h ≡ Some place
+        ensures ended { OnOk result ((g : Geometry) (h : List Entry) → FollowsWrites self.old g h
+            → open_write h ≡ Some place
             → FollowsWrites self.new g (h ++ Entry.WriteEnded place outcome.now ∷ [])) }
-        ensures refused { OnErr result ((g : Geometry) (h : List Entry) → FollowsWrites self.old g h → FollowsWrites self.new g h) }
+        ensures refused { OnErr result ((g : Geometry) (h : List Entry) → FollowsWrites self.old g h
+            → FollowsWrites self.new g h) }
     {
         match outcome {
             None => self.fail(place),
@@ -104,7 +111,8 @@ impl WriteTable {
     fn fail(&mut self, place: Place) -> Result<(), AllocError>
         ensures ended { OnOk result ((g : Geometry) (h : List Entry) → FollowsWrites self.old g h
             → FollowsWrites self.new g (h ++ Entry.WriteEnded place None ∷ [])) }
-        ensures refused { OnErr result ((g : Geometry) (h : List Entry) → FollowsWrites self.old g h → FollowsWrites self.new g h) }
+        ensures refused { OnErr result ((g : Geometry) (h : List Entry) → FollowsWrites self.old g h
+            → FollowsWrites self.new g h) }
     {
         self.failed.insert((place.label.page, place.label.version))?;
         self.open = None;
@@ -112,9 +120,11 @@ impl WriteTable {
     }
 
     fn succeed(&mut self, place: Place) -> Result<(), AllocError>
-        ensures ended { OnOk result ((g : Geometry) (h : List Entry) (bytes : List ℕ) → FollowsWrites self.old g h → open_write h ≡ Some place
+        ensures ended { OnOk result ((g : Geometry) (h : List Entry) (bytes : List ℕ) → FollowsWrites self.old g h
+            → open_write h ≡ Some place
             → FollowsWrites self.new g (h ++ Entry.WriteEnded place (Some bytes) ∷ [])) }
-        ensures refused { OnErr result ((g : Geometry) (h : List Entry) → FollowsWrites self.old g h → FollowsWrites self.new g h) }
+        ensures refused { OnErr result ((g : Geometry) (h : List Entry) → FollowsWrites self.old g h
+            → FollowsWrites self.new g h) }
     {
         let label = (place.label.page, place.label.version);
         self.written.insert((label, u64::from(place.offset)))?;

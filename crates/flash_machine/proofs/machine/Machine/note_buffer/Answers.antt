@@ -5,7 +5,7 @@ use Rattle.flash_machine.proofs.Passing.{cache_on, pages_on, steps_on, reads_on,
 use Rattle.flash_machine.proofs.machine.Machine.note_buffer.Goals as goal
 
 pub returns-clause-noted : goal.returns-clause-noted
-returns-clause-noted c = IfOk-weaker c.take_from_buffer.result _ _ (λ _ made g h stands.
+returns-clause-noted c = IfOk-weaker c.take_from_buffer.result _ _ (λ _ made g h stands meets.
     let e = entries.FromBuffer c.args.id c.args.place in
     record {
       geometry = stands.geometry;

@@ -5,7 +5,7 @@ use Rattle.flash_machine.proofs.Passing.{cache_on, pages_on, steps_on, reads_on,
 use Rattle.flash_machine.proofs.machine.Machine.note_close.Goals as goal
 
 pub returns-clause-noted : goal.returns-clause-noted
-returns-clause-noted c = IfOk-weaker c.close.result _ _ (λ _ made g h stands.
+returns-clause-noted c = IfOk-weaker c.close.result _ _ (λ _ made g h stands meets.
     let e = entries.Closed c.args.id c.args.close.now in
     record {
       geometry = stands.geometry;

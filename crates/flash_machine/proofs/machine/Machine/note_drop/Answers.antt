@@ -5,7 +5,7 @@ use Rattle.flash_machine.proofs.Passing.{cache_on, pages_on, steps_on, reads_on,
 use Rattle.flash_machine.proofs.machine.Machine.note_drop.Goals as goal
 
 pub returns : goal.returns
-returns c = λ g h cause stands.
+returns c = λ cause g h stands meets.
     let e = entries.Dropped c.args.key.now cause in
     record {
       geometry = stands.geometry;

@@ -5,7 +5,7 @@ use Rattle.flash_machine.proofs.Passing.{cache_on, steps_on, reads_on, writes_on
 use Rattle.flash_machine.proofs.machine.Machine.note_end.Goals as goal
 
 pub returns-clause-noted : goal.returns-clause-noted
-returns-clause-noted c = IfOk-weaker c.end.result _ _ (λ _ made g h cause stands.
+returns-clause-noted c = IfOk-weaker c.end.result _ _ (λ _ made cause g h stands meets.
     let e = entries.Ended c.args.label cause in
     record {
       geometry = stands.geometry;

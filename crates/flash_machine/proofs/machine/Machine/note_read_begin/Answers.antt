@@ -5,7 +5,7 @@ use Rattle.flash_machine.proofs.Passing.{cache_on, pages_on, steps_on, writes_on
 use Rattle.flash_machine.proofs.machine.Machine.note_read_begin.Goals as goal
 
 pub returns-clause-noted : goal.returns-clause-noted
-returns-clause-noted c = IfOk-weaker c.begin.result _ _ (λ _ made g h reader stands.
+returns-clause-noted c = IfOk-weaker c.begin.result _ _ (λ _ made reader g h stands meets.
     let e = entries.ReadBegan c.args.id c.args.place reader in
     record {
       geometry = stands.geometry;

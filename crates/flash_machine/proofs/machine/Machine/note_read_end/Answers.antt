@@ -5,7 +5,7 @@ use Rattle.flash_machine.proofs.Passing.{cache_on, pages_on, steps_on, writes_on
 use Rattle.flash_machine.proofs.machine.Machine.note_read_end.Goals as goal
 
 pub returns-clause-noted : goal.returns-clause-noted
-returns-clause-noted c = λ g h stands.
+returns-clause-noted c = λ g h stands meets.
     let e = entries.ReadEnded c.args.id c.args.outcome.now in
     record {
       geometry = stands.geometry;

@@ -6,7 +6,7 @@ use Rattle.flash_machine.proofs.Passing.{cache_on, pages_on, steps_on, reads_on,
 use Rattle.flash_machine.proofs.machine.Machine.note_recache.Goals as goal
 
 pub returns-clause-noted : goal.returns-clause-noted
-returns-clause-noted c = IfOk-weaker c.set_label.result _ _ (λ _ made g h cas stands.
+returns-clause-noted c = IfOk-weaker c.set_label.result _ _ (λ _ made cas g h stands meets.
     let e = entries.Recached c.args.key.now cas in
     record {
       geometry = stands.geometry;
