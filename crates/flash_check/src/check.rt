@@ -1,5 +1,5 @@
 // The answer on the bytes of a journal.
-ghost use Rattle.std.specs.Prelude.{◌≡◌, ◌≤◌, List, [], None, Ok, Err, length, IfOk, OnOk};
+ghost use Rattle.std.specs.Prelude.{◌≡◌, ◌≤◌, List, [], Ok, length, IfOk, OnOk};
 ghost use Rattle.flash_names.specs.declared.geometry.Geometry.{Geometry};
 ghost use Rattle.flash_names.specs.Geometry.{check_result};
 ghost use Rattle.flash_entry.specs.declared.entry.Entry.{Entry};
