@@ -1,9 +1,8 @@
 -- What a check writes, and what it says of all that was read.
-use Rattle.std.proofs.Common.{◌≡◌, ◌≢◌, ℕ, ◌<◌, ◌≤◌, Bool, true, false, nat_lt, List, [], ◌∷◌, ◌++◌, length, Option, None, Some, Result, Ok, Err, ◌⊎◌, inl, inr, if◌then◌else◌, refl, sym, ◌∙◌, ap, subst, arith, length-append}
+use Rattle.std.proofs.Common.{◌≡◌, ◌≢◌, ℕ, ◌<◌, Bool, true, false, nat_lt, List, [], ◌∷◌, ◌++◌, length, Option, None, Some, Result, Ok, Err, ◌⊎◌, inl, inr, if◌then◌else◌, refl, sym, ◌∙◌, ap, subst, arith, length-append}
 use Rattle.std.proofs.lemmas.List.{append-nil}
 use Rattle.flash_names.specs.declared.geometry.Geometry.{Geometry}
 use Rattle.flash_names.specs.Source.{IsAtEnd}
-use Rattle.flash_names.specs.Faults.{Rose}
 use Rattle.flash_names.specs.Told.{with_front}
 use Rattle.flash_entry.specs.declared.entry.Entry.{Entry}
 use Rattle.flash_entry.specs.declared.entry_fault.EntryFault.{EntryFault}
@@ -12,12 +11,12 @@ use Rattle.flash_entry.specs.GeometryLine.{geometry_of_line}
 use Rattle.flash_entry.specs.EntryReading.{reading}
 use Rattle.flash_check.specs.declared.status.CheckStatus.{CheckStatus}
 use Rattle.flash_check.specs.declared.status.CheckStatus.TheVariants as statuses
-use Rattle.flash_check.specs.Ends.{HasRead, IsWritten, IsBegun, IsAnswered, IsCutOff, IsChecked, HasCause, IsSaid, writes_nothing}
+use Rattle.flash_check.specs.Ends.{HasRead, IsWritten, IsAnswered, IsChecked, IsSaid, writes_nothing}
 use Rattle.flash_check.specs.Lines.{lines_of}
 use Rattle.flash_check.specs.Outside.{Outside}
 use Rattle.flash_check.specs.Texts.{answer_text}
 use Rattle.flash_check.specs.Verdicts.{broken_by, next_line, by_rule, by_reading, entries_verdict, by_geometry, lines_verdict, verdict_on}
-use Rattle.flash_check.proofs.FirstLine.{on_long, by_lines}
+use Rattle.flash_check.proofs.FirstLine.{on_long}
 
 -- whether a check that ends so has written a line
 abbrev pub is_answer : CheckStatus → Bool

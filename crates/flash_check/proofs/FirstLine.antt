@@ -1,11 +1,10 @@
 -- The answer on bytes by their first line.
-use Rattle.std.proofs.Common.{◌≡◌, ℕ, ◌<◌, ◌≤◌, Bool, true, false, nat_lt, List, [], ◌∷◌, length, Option, None, Some, Result, Ok, Err, if◌then◌else◌, refl, sym, ◌∙◌, ap, arith}
+use Rattle.std.proofs.Common.{◌≡◌, ℕ, ◌<◌, ◌≤◌, true, false, nat_lt, List, [], length, None, Some, Result, Ok, Err, if◌then◌else◌, sym, ◌∙◌, ap, arith}
 use Rattle.std.proofs.lemmas.Bool.Decides.{nat_tests}
 use Rattle.flash_names.specs.declared.geometry.Geometry.{Geometry}
 use Rattle.flash_names.specs.Cut.{cut_at}
 use Rattle.flash_entry.specs.declared.geometry_line.HeadFault.{HeadFault}
 use Rattle.flash_entry.specs.GeometryLine.{geometry_of_line}
-use Rattle.flash_check.specs.declared.status.CheckStatus.{CheckStatus}
 use Rattle.flash_check.specs.declared.status.CheckStatus.TheVariants.{BadLine}
 use Rattle.flash_check.specs.Lines.{Lines, lines_of}
 use Rattle.flash_check.specs.Verdicts.{by_geometry, entries_verdict, lines_verdict, verdict_on}

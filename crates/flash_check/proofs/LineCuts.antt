@@ -1,5 +1,5 @@
 -- The lines of bytes, by where they are cut at their first line feed.
-use Rattle.std.proofs.Common.{◌≡◌, ℕ, ◌+◌, Bool, true, false, ◌==◌, List, [], ◌∷◌, ◌++◌, Option, None, Some, if◌then◌else◌, refl, sym, ◌∙◌, ap}
+use Rattle.std.proofs.Common.{◌≡◌, ℕ, Bool, true, false, ◌==◌, List, [], ◌∷◌, Option, None, Some, if◌then◌else◌, refl, ◌∙◌, ap}
 use Rattle.std.specs.Option.{option_map}
 use Rattle.flash_names.specs.Cut.{cut_at}
 use Rattle.flash_check.specs.Lines.{Lines, lines_of, in_first_line}

@@ -1,5 +1,5 @@
 -- The bytes of a journal that is a run, and those that a checker answers `Legal`.
-use Rattle.std.proofs.Common.{◌≡◌, ◌↔◌, ℕ, ◌+◌, ◌<◌, ◌≤◌, Bool, true, false, ◌==◌, nat_lt, not, ◌&&◌, List, [], ◌∷◌, ◌++◌, length, Option, None, Some, Result, Ok, Err, if◌then◌else◌, refl, sym, ◌∙◌, ap, subst, arith, append_assoc, append-nil}
+use Rattle.std.proofs.Common.{◌≡◌, ℕ, ◌+◌, ◌≤◌, Bool, true, false, ◌==◌, nat_lt, not, ◌&&◌, List, [], ◌∷◌, ◌++◌, length, Option, None, Some, Result, Ok, Err, if◌then◌else◌, refl, sym, ◌∙◌, ap, subst, arith, append_assoc}
 use Rattle.std.specs.List.{flat_map, list_all, AllByRecursion}
 use Rattle.std.proofs.lemmas.Bool.Decides.{nat_tests}
 use Rattle.flash_names.specs.declared.geometry.Geometry.{Geometry}
@@ -12,16 +12,13 @@ use Rattle.flash_entry.specs.EntryText.{entry_line, kind_word, entry_rest}
 use Rattle.flash_entry.specs.GeometryLine.{geometry_of_line}
 use Rattle.flash_entry.specs.IsEntry.{IsEntry}
 use Rattle.flash_entry.specs.OneLine.{IsOneLine}
-use Rattle.flash_entry.specs.Text.{line_end}
 use Rattle.flash_machine.specs.Cache.{Cache}
 use Rattle.flash_machine.specs.Laws.{EachEntryIsAStep}
-use Rattle.flash_machine.specs.Legal as runs
-use Rattle.flash_machine.specs.Legal.{Meets, LegalFrom}
-use Rattle.flash_machine.specs.Rules.{rules, broken}
-use Rattle.flash_machine.specs.Steps.{cache_of, next}
+use Rattle.flash_machine.specs.Legal.{LegalFrom}
+use Rattle.flash_machine.specs.Steps.{cache_of}
 use Rattle.flash_machine.specs.Deciding.{RulesDecide}
 use Rattle.flash_check.specs.declared.status.CheckStatus.{CheckStatus}
-use Rattle.flash_check.specs.declared.status.CheckStatus.TheVariants.{Legal, Illegal, BadLine}
+use Rattle.flash_check.specs.declared.status.CheckStatus.TheVariants.{Legal, BadLine}
 use Rattle.flash_check.specs.JournalLaws.{IsRun, EachRunIsLegal}
 use Rattle.flash_check.specs.Lines.{Lines, lines_of, in_first_line}
 use Rattle.flash_check.specs.Verdicts.{broken_by, next_line, by_rule, by_reading, entries_verdict, by_geometry, lines_verdict, verdict_on}

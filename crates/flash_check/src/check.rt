@@ -1,9 +1,8 @@
 // The answer on the bytes of a journal.
-ghost use Rattle.std.specs.Prelude.{◌≡◌, ◌≤◌, List, [], ◌∷◌, ◌++◌, None, Ok, Err, length, IfOk, OnOk};
+ghost use Rattle.std.specs.Prelude.{◌≡◌, ◌≤◌, List, [], Ok, length, IfOk, OnOk};
 ghost use Rattle.flash_names.specs.declared.geometry.Geometry.{Geometry};
 ghost use Rattle.flash_names.specs.Geometry.{check_result};
 ghost use Rattle.flash_entry.specs.declared.entry.Entry.{Entry};
-ghost use Rattle.flash_entry.specs.EntryReading.{reading};
 ghost use Rattle.flash_machine.specs.Stands.{StandsFor};
 ghost use Rattle.flash_check.specs.Lines.{lines_of};
 ghost use Rattle.flash_check.specs.LineVerdicts.{line_verdict, StandsWith};

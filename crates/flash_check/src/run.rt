@@ -1,4 +1,4 @@
-ghost use Rattle.std.specs.Prelude.{◌≡◌, ◌↔◌, true, false, IsTrue};
+ghost use Rattle.std.specs.Prelude.{◌≡◌, ◌↔◌, true, false};
 ghost use Rattle.flash_check.specs.CommandLine.{asks_check};
 ghost use Rattle.flash_check.specs.Ends.{IsChecked, HasCause, writes_nothing, IsSaid};
 ghost use Rattle.flash_check.specs.Outside.{outside};

@@ -1,4 +1,4 @@
-use Rattle.std.proofs.Common.{◌≡◌, IfOk, ◌∙◌, arith}
+use Rattle.std.proofs.Common.{arith}
 use Rattle.flash_check.proofs.FirstLine.{on_no_line, on_bad_first_line, on_entries}
 use Rattle.flash_check.proofs.Results.{ok_as}
 use Rattle.flash_check.proofs.check.check_bytes.Goals as goal

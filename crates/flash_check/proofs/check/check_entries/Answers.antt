@@ -1,8 +1,6 @@
-use Rattle.std.proofs.Common.{◌≡◌, ◌<◌, Some, length, sym, ◌∙◌, ap, arith}
+use Rattle.std.proofs.Common.{◌<◌, length, arith}
 use Rattle.std.proofs.lemmas.Bool.Decides.{nat_tests}
 use Rattle.std.proofs.lemmas.Grind.{common_steps}
-use Rattle.flash_machine.specs.declared.machine.Verdict.TheVariants as verdicts
-use Rattle.flash_check.specs.LineVerdicts.{line_verdict}
 use Rattle.flash_check.proofs.Deciding.{at_short_line, at_illegal_line, at_bad_line, at_good_line}
 use Rattle.flash_check.proofs.check.check_entries.Goals as goal
 
