@@ -13,7 +13,8 @@ use Rattle.flash_machine.specs.Cache.{Items}
 use Rattle.flash_machine.specs.Load.{total}
 use Rattle.flash_machine.specs.Followed.{counted}
 
-abbrev order : List ℕ → List ℕ → Ordering
+-- the order of the keys
+abbrev pub order : List ℕ → List ℕ → Ordering
 order = slice_cmp nat_cmp
 
 first : (a b : Bool) → T (a && b) → T a
@@ -50,7 +51,7 @@ lower key other (e ∷ es) is below =
     both true b p q = q
     both false b p q = p
 
-abbrev by_order : {A : Type 0} → Ordering → A → A → A → A
+abbrev pub by_order : {A : Type 0} → Ordering → A → A → A → A
 by_order Less a b c = a
 by_order Equal a b c = b
 by_order Greater a b c = c
@@ -77,13 +78,13 @@ module _ (items : Items) (key : List ℕ) where
   back_by item false q apart there = refl
 
   -- an item that is taken out and put back
-  put_back : (item : Item) → map.get items key ≡ Some item → map.insert (map.remove items key) key item ≡ items
+  pub put_back : (item : Item) → map.get items key ≡ Some item → map.insert (map.remove items key) key item ≡ items
   put_back item there = map.same_map nat_list_cmp_total (map.slice_cmp-IsAntisymmetric map.nat_cmp-IsAntisymmetric) (map.insert (map.remove items key) key item) items
       (λ q. map.get-insert nat_list_cmp_total (map.remove items key) key item q
       ∙ ap (cond (eq_by_cmp order q key) (Some item)) (map.get-remove nat_list_cmp_total items key q)
       ∙ back_by item (eq_by_cmp order q key) q refl there)
 
-  removed_there : map.get (map.remove items key) key ≡ None
+  pub removed_there : map.get (map.remove items key) key ≡ None
   removed_there = map.get-remove nat_list_cmp_total items key key ∙ ap (λ r. cond (is_eq r) None (map.get items key)) (tied_itself nat_list_cmp_total key)
 
 module _ (count : List ℕ × Item → ℕ) where
@@ -127,10 +128,14 @@ module _ (count : List ℕ × Item → ℕ) where
           let same = ap (λ (m : Items). total count (map.entries m) + counted count key (map.get without key)) (put_back items key item there) in
           let none = ap (counted count key) (removed_there items key) in omega (arith, back, same, none)
 
--- no entries have no sum
-pub total_none : (count : List ℕ × Item → ℕ) → total count (map.entries (map.empty {X = Item} {R = order})) ≡ 0
-total_none count = of_none (map.entries (map.empty {X = Item} {R = order})) (sym (map.len-entries (map.empty {X = Item} {R = order})) ∙ map.len-empty order Item)
+-- the empty map has no entries
+pub no_entries : map.entries (map.empty {X = Item} {R = order}) ≡ []
+no_entries = of_none (map.entries (map.empty {X = Item} {R = order})) (sym (map.len-entries (map.empty {X = Item} {R = order})) ∙ map.len-empty order Item)
   where
-    of_none : (es : List (List ℕ × Item)) → length es ≡ 0 → total count es ≡ 0
+    of_none : (es : List (List ℕ × Item)) → length es ≡ 0 → es ≡ []
     of_none [] none = refl
     of_none (e ∷ es) none = absurd (omega (arith, none))
+
+-- and no sum
+pub total_none : (count : List ℕ × Item → ℕ) → total count (map.entries (map.empty {X = Item} {R = order})) ≡ 0
+total_none count = ap (total count) no_entries

@@ -9,7 +9,6 @@ use Rattle.flash_entry.specs.declared.answer.Summed.{Summed}
 use Rattle.flash_machine.specs.Storing.{last_number}
 use Rattle.flash_machine.specs.Looking.{left_to}
 use Rattle.std.specs.Str.{bytes_eq}
-use Rattle.std.specs.HashMap.{hash_map_len}
 use Rattle.flash_names.specs.declared.place.Id.{Id}
 use Rattle.flash_names.specs.declared.place.Label.{Label}
 use Rattle.flash_names.specs.declared.geometry.Geometry.{Geometry}
@@ -93,8 +92,7 @@ label_count table label = or_none (hash.get same_pair table.counts (label.page, 
 
 -- the items
 pub record FollowsItems (table : ItemTable) (items : Items) : Type 0 where
-  pub get : (key : List ℕ) → map.get items key ≡ hash.get bytes_eq table.items key
-  pub len : map.len items ≡ hash_map_len table.items
+  pub entries : map.entries items ≡ table.items.entries
   pub load : load_of items ≡ table.load
   pub labelled : (label : Label) → labelled_count label items ≡ label_count table.labelled label
 

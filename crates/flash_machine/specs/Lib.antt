@@ -36,6 +36,7 @@ pub mod Stands
 pub mod Steps
 pub mod Storing
 pub mod Summing
+pub mod Told
 pub mod Touching
 pub mod WriteLaws
 pub mod Writes

@@ -3,7 +3,10 @@
 
 ghost use Rattle.std.specs.Prelude.{◌≡◌, ◌≢◌, [], ◌∷◌, ◌++◌, None, IfOk, OnOk, OnErr, List, Ok};
 ghost use Rattle.flash_names.specs.Geometry.{check_result};
+ghost use Rattle.std.specs.Option.{option_copied, option_map};
 ghost use Rattle.flash_machine.specs.Steps.{cache_of};
+ghost use Rattle.flash_machine.specs.Live.{live_item, next_live_key, told_of};
+ghost use Rattle.flash_machine.specs.Told.{told};
 ghost use Rattle.flash_machine.specs.Rules.{rules, broken};
 ghost use Rattle.flash_machine.specs.Stands.{StandsFor, Judges, Takes, StandsOn, verdict_of};
 
@@ -14,6 +17,7 @@ mod item_table;
 mod judging;
 mod label_counts;
 mod last_steps;
+mod live;
 mod lookup_table;
 mod map_key;
 mod moments;
@@ -26,12 +30,13 @@ mod write_table;
 
 use crate::machine::cache_table::CacheTable;
 use crate::machine::last_steps::LastSteps;
+pub use crate::machine::live::Live;
 use crate::machine::lookup_table::LookupTable;
 use crate::machine::page_table::PageTable;
 use crate::machine::read_table::ReadTable;
 use crate::machine::write_table::WriteTable;
 use flash_entry::Entry;
-use flash_names::Geometry;
+use flash_names::{Geometry, Key};
 use std::alloc::{AllocError, Global};
 
 /// The verdict on an entry of a journal.
@@ -71,6 +76,24 @@ impl Machine {
             writes: WriteTable::new(alloc, geometry.buffer_size),
             geometry,
         }
+    }
+
+    /// The live item of the journal's cache under the key: `None` exactly where there is none.
+    pub fn live(&self, key: &Key) -> Option<Live<'_>>
+        ensures { (g : Geometry) (h : List Entry) → StandsFor self.now g h
+            → option_map told result ≡ option_map told_of (live_item h (cache_of g h) key.now) }
+    {
+        let item = self.cache.live(&self.pages, key)?;
+        Some(Live::of(item))
+    }
+
+    /// The first key, in the order of the bytes, that has a live item in the journal's cache and stands behind `after`,
+    /// if one is given: `None` exactly where there is none.
+    pub fn next_live(&self, after: Option<&Key>) -> Option<&Key>
+        ensures { (g : Geometry) (h : List Entry) → StandsFor self.now g h
+            → option_copied result ≡ next_live_key h (cache_of g h) (option_copied after.entry) }
+    {
+        self.cache.next_live(&self.pages, after)
     }
 
     /// Decides whether the journal goes on as a run by this entry. Where it does, the machine stands for the longer

@@ -4,7 +4,7 @@ ghost use Rattle.std.specs.FinMap as map;
 ghost use Rattle.flash_names.specs.declared.geometry.Geometry.{Geometry};
 ghost use Rattle.flash_entry.specs.declared.entry.Entry.{Entry};
 ghost use Rattle.flash_machine.specs.Cache.{Cache, first_cache};
-ghost use Rattle.flash_machine.specs.Live.{is_expired_item, label_has_ended, is_live, live_item};
+ghost use Rattle.flash_machine.specs.Live.{is_expired_item, label_has_ended, is_live, live_item, next_live_key};
 ghost use Rattle.flash_machine.specs.Load.{tally_of};
 ghost use Rattle.flash_machine.specs.Same.{same_tally, same_residence};
 ghost use Rattle.flash_machine.specs.Looking.{residence_of};
@@ -71,6 +71,19 @@ impl CacheTable {
         } else {
             None
         }
+    }
+
+    // The first key behind the one that is given that has a live item.
+    pub fn next_live(&self, pages: &PageTable, after: Option<&Key>) -> Option<&Key>
+        ensures { (g : Geometry) (h : List Entry) (c : Cache) → FollowsPages pages.now g h → FollowsCache self.now c
+            → option_copied result ≡ next_live_key h c (option_copied after.entry) }
+    {
+        'items: for (key, item) in self.items.behind(after) {
+            if self.is_live(pages, item) {
+                return Some(key.key());
+            }
+        }
+        None
     }
 
     // Rule 1.

@@ -1,10 +1,9 @@
-ghost use Rattle.std.specs.Prelude.{◌≡◌, ℕ, ◌<◌, Some, OnOk, OnErr, List, ◌+◌, is_some, if◌then◌else◌};
-ghost use Rattle.std.specs.Str.{bytes_eq};
-ghost use Rattle.std.specs.HashMap as hash;
-ghost use Rattle.std.specs.HashMap.{hash_map_len, spare};
+ghost use Rattle.std.specs.Prelude.{◌≡◌, OnOk, OnErr};
+ghost use Rattle.std.specs.List.{filter};
 ghost use Rattle.std.specs.Option.{option_copied};
 ghost use Rattle.std.specs.FinMap as map;
 ghost use Rattle.flash_machine.specs.Cache.{Items};
+ghost use Rattle.flash_machine.specs.Live.{is_behind};
 ghost use Rattle.flash_machine.specs.Load.{load_of, item_load};
 ghost use Rattle.flash_machine.specs.Followed.{FollowsItems, labelled_count, label_of_found, counted};
 
@@ -13,12 +12,14 @@ use crate::machine::label_counts::LabelCounts;
 use crate::machine::map_key::MapKey;
 use flash_names::{Key, Label};
 use std::alloc::{AllocError, Global};
-use std::collections::HashMap;
+use std::collections::BTreeMap;
+use std::collections::btree_map::Range;
+use std::ops::Bound;
 
 // The items by their keys, what they take of the memory, and how many have each label.
 #[derive(Drop)]
 pub struct ItemTable {
-    items: HashMap<MapKey, Item>,
+    items: BTreeMap<MapKey, Item>,
     load: u64,
     labelled: LabelCounts,
 }
@@ -28,7 +29,7 @@ impl ItemTable {
         ensures { FollowsItems result map.empty }
     {
         ItemTable {
-            items: HashMap::new(alloc),
+            items: BTreeMap::new(alloc),
             load: 0,
             labelled: LabelCounts::new(alloc),
         }
@@ -38,6 +39,18 @@ impl ItemTable {
         ensures { (items : Items) → FollowsItems self.now items → option_copied result ≡ map.get items key.now }
     {
         self.items.get(&MapKey::of(key))
+    }
+
+    // The items behind a key in the order of the bytes, or all of them.
+    pub fn behind(&self, after: Option<&Key>) -> Range<'_, MapKey, Item>
+        ensures { (items : Items) → FollowsItems self.now items
+            → result ≡ filter (λ entry. is_behind (option_copied after.entry) entry.0) (map.entries items) }
+    {
+        let start = match after {
+            None => Bound::Unbounded,
+            Some(key) => Bound::Excluded(MapKey::of(key)),
+        };
+        self.items.range((start, Bound::Unbounded))
     }
 
     pub fn len(&self) -> usize
@@ -86,9 +99,12 @@ impl ItemTable {
         let old_label = self.label_of(key);
         let others = self.load.saturating_sub(self.load_of(key));
         let load = others.checked_add(item_load(key, &item)).ok_or(AllocError)?;
-        self.items.reserve(1)?;
-        self.labelled.raise(item.label)?;
-        insert(&mut self.items, key, item);
+        let label = item.label;
+        self.labelled.raise(label)?;
+        if self.items.insert(MapKey::of(key), item).is_err() {
+            self.labelled.lower(label);
+            return Err(AllocError);
+        }
         self.labelled.lower(old_label);
         self.load = load;
         Ok(())
@@ -103,18 +119,6 @@ impl ItemTable {
         let _ = self.items.remove(&MapKey::of(key));
         self.labelled.lower(old_label);
     }
-}
-
-// Puts the item under the key of a table with room for one more.
-fn insert(items: &mut HashMap<MapKey, Item>, key: &Key, item: Item)
-    requires { 0 < spare items.old }
-    ensures got { (other : List ℕ) → hash.get bytes_eq items.new other
-        ≡ (if bytes_eq key.now other then Some item else hash.get bytes_eq items.old other) }
-    ensures len { hash_map_len items.new
-        ≡ (if is_some (hash.get bytes_eq items.old key.now) then hash_map_len items.old
-        else hash_map_len items.old + 1) }
-{
-    let _ = items.insert(MapKey::of(key), item);
 }
 
 // What an item takes of the memory under a key.
