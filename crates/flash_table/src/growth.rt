@@ -12,9 +12,9 @@ use flash_keys::KeyStore;
 use flash_names::hash_of;
 use std::alloc::{AllocError, Global};
 
-// A chain of so many empty groups, or out of memory.
+// A chain of an empty group and so many more behind it, or out of memory.
 pub fn empty_chain(alloc: Global, groups: usize) -> Result<Chain, AllocError>
-    ensures long { IfOk result (λ chain. length chain ≡ groups * 16) }
+    ensures long { IfOk result (λ chain. length chain ≡ groups * 16 + 16) }
     ensures free { IfOk result (λ chain. (i : ℕ) → entry_at chain i ≡ the_vacant) }
 {
     let mut chain = Chain::new(alloc);

@@ -147,7 +147,7 @@ impl Table {
         let from = homes - self.power as usize;
         let power = power_after(homes as u64, self.power);
         let leaving = count_leaving(&self.keys, &self.chains, power, from);
-        let fresh = empty_chain(alloc, leaving / 16 + 1)?;
+        let fresh = empty_chain(alloc, leaving / 16)?;
         self.chains.push(fresh)?;
         divide(&self.keys, &mut self.chains, power, from, homes);
         self.power = power;
