@@ -1,4 +1,4 @@
-use Rattle.std.proofs.Common.{◌++◌, List, length, length-append, ap, ◌∙◌, arith}
+use Rattle.std.proofs.Common.{List, length, length-append, ap, ◌∙◌, arith}
 use Rattle.flash_table.specs.declared.entry.Entry.{Entry}
 use Rattle.flash_table.specs.Entries.{entry_at, vacants}
 use Rattle.flash_table.proofs.Widened.{blank_at, vacants_at}
