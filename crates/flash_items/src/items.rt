@@ -139,9 +139,9 @@ impl Items {
         ensures spare { self.old.spare ≤ self.new.spare }
     {
         self.segments.has_one_each();
+        self.segments.remove(id);
         let entry = self.entries.remove(id.key);
         let _ = self.table.take(entry.key);
-        self.segments.remove(id);
         entry.parts
     }
 

@@ -59,6 +59,16 @@ going_from store n h (e ∷ es) (suc k) inside =
     let next : suc k + 1 ≡ suc (k + 1) = omega arith in
     going_from store n h es k (omega arith) ∙ ap (λ (m : ℕ). cond (goes store n h (entry_at es k)) 1 0 + going store n h (drop m (e ∷ es))) (sym next)
 
+-- the slots behind one that moves stay
+pub later_same : (chains : List (List Entry)) (from last slot next : ℕ) (e : Entry) → from < length chains → from ≢ last → (i : ℕ) → slot + 1 ≤ i
+    → entry_at (chain_of (with_entry (with_entry chains from slot vacant) last next e) from) i ≡ entry_at (chain_of chains from) i
+later_same chains from last slot next e inside apart i later =
+    let cleared : List (List Entry) = with_entry chains from slot vacant in
+    ap (λ (c : List Entry). entry_at c i)
+    (get_or-set_other cleared last from (set (chain_of cleared last) next e) [] apart
+    ∙ get_or-set_at chains from from (set (chain_of chains from) slot vacant) [] refl inside)
+    ∙ get_or-set_other (chain_of chains from) slot i vacant vacant (λ same. absurd (omega (arith, later, same)))
+
 drop_set : (es : List Entry) (k : ℕ) (e : Entry) → drop (k + 1) (set es k e) ≡ drop (k + 1) es
 drop_set [] k e = refl
 drop_set (x ∷ es) zero e = refl

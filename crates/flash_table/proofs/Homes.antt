@@ -1,7 +1,9 @@
 -- One home more.
-use Rattle.std.proofs.Common.{◌≡◌, ℕ, zero, suc, ◌+◌, ◌*◌, ◌-◌, ◌/◌, ◌%◌, ◌<◌, ◌≤◌, Bool, true, false, cond, inl, inr, ◌⊎◌, refl, sym, subst, arith, nat_eq, nat_lt}
+use Rattle.std.proofs.Common.{◌≡◌, ℕ, zero, suc, ◌+◌, ◌*◌, ◌-◌, ◌/◌, ◌%◌, ◌^◌, ◌<◌, ◌≤◌, Bool, true, false, cond, inl, inr, ◌⊎◌, refl, sym, ap, subst, ◌∙◌, arith, nat_eq, nat_lt}
 use Rattle.std.proofs.lemmas.Bool.Decides.{nat_tests}
-use Rattle.std.proofs.Math.Nat.{mod-mod_of_dvd, mod-lt, mod-eq_of_lt, mod-eq-sub-mod, dvd-mul_left}
+use Rattle.std.proofs.Math.Nat.{mod-mod_of_dvd, mod-lt, mod-eq_of_lt, mod-eq-sub-mod, dvd-mul_left, pow-succ'}
+use Rattle.std.specs.Int.Bits.{bit_and}
+use Rattle.std.proofs.lemmas.Nat.{and_mask}
 use Rattle.flash_table.specs.Home.{power, home_at, home, split_home}
 
 pub power_next : (n : ℕ) → power (suc n) ≡ cond (nat_eq (suc n) (2 * power n)) (suc n) (power n)
@@ -20,6 +22,18 @@ fits (suc n) = grind (arith, nat_tests, power_next (suc n), fits n)
 pub power_fits : (n : ℕ) → 0 < n → (power n ≤ n) × (n < 2 * power n)
 power_fits zero some = absurd (omega arith)
 power_fits (suc n) some = fits n
+
+power_next_is : (n : ℕ) → (k : ℕ) × (power n ≡ 2 ^ k) → (b : Bool) → nat_eq (suc n) (2 * power n) ≡ b → (k : ℕ) × (cond b (suc n) (power n) ≡ 2 ^ k)
+power_next_is n before false is = before
+power_next_is n before true is =
+    let double : suc n ≡ 2 * power n = grind (arith, nat_tests) in
+    (suc before.0, double ∙ ap (λ (m : ℕ). 2 * m) before.1 ∙ sym (pow-succ' 2 before.0))
+
+-- the power is a power of two
+pub power_is : (n : ℕ) → (k : ℕ) × (power n ≡ 2 ^ k)
+unfolding power
+power_is zero = (0, refl)
+power_is (suc n) = let before = power_is n in power_next_is n before (nat_eq (suc n) (2 * power n)) refl
 
 either : (a b : ℕ) → (a < b) ⊎ (b ≤ a)
 either a b = grind (arith, nat_tests)
@@ -62,6 +76,38 @@ divided n q some true is =
 
 pub power_more : (n : ℕ) → power (n + 1) ≡ cond (nat_eq (suc n) (2 * power n)) (suc n) (power n)
 power_more n = let e : n + 1 ≡ suc n = omega arith in rw e (power_next n)
+
+-- the bits below the power are the remainder by it, and one bit more that by twice the power
+pub by_power : (n q : ℕ) → bit_and q (power n - 1) ≡ q % power n
+by_power n q = let is = power_is n in subst (λ (p : ℕ). bit_and q (p - 1) ≡ q % p) (sym is.1) (and_mask q is.0)
+
+pub by_twice : (n q : ℕ) → bit_and q (2 * power n - 1) ≡ q % (2 * power n)
+by_twice n q =
+    let is = power_is n in
+    let double : 2 * power n ≡ 2 ^ suc is.0 = ap (λ (m : ℕ). 2 * m) is.1 ∙ sym (pow-succ' 2 is.0) in
+    subst (λ (p : ℕ). bit_and q (p - 1) ≡ q % p) (sym double) (and_mask q (suc is.0))
+
+narrowed : (n q : ℕ) (b : Bool) → nat_lt (q % (2 * power n)) n ≡ b → q % (2 * power n) < n → q % (2 * power n) ≡ cond b (q % (2 * power n)) (q % power n)
+narrowed n q true test less = refl
+narrowed n q false test less = absurd (grind (arith, nat_tests))
+
+widened : (n q : ℕ) (b : Bool) → nat_lt (q % (2 * power n)) n ≡ b → n ≤ q % (2 * power n) → q % power n ≡ cond b (q % (2 * power n)) (q % power n)
+widened n q true test more = absurd (grind (arith, nat_tests))
+widened n q false test more = refl
+
+-- the home is found by the bits below the power
+pub wide_home : (n q p : ℕ) → p ≡ power n → bit_and q (2 * p - 1) < n → bit_and q (2 * p - 1) ≡ home_at (power n) n q
+wide_home n q p is low =
+    let bits : bit_and q (2 * p - 1) ≡ q % (2 * power n) = ap (λ (m : ℕ). bit_and q (2 * m - 1)) is ∙ by_twice n q in
+    let less : q % (2 * power n) < n = omega (arith, bits, low) in
+    bits ∙ narrowed n q (nat_lt (q % (2 * power n)) n) refl less
+
+pub other_home : (n q p : ℕ) → p ≡ power n → n ≤ bit_and q (2 * p - 1) → bit_and q (p - 1) ≡ home_at (power n) n q
+other_home n q p is high =
+    let bits : bit_and q (2 * p - 1) ≡ q % (2 * power n) = ap (λ (m : ℕ). bit_and q (2 * m - 1)) is ∙ by_twice n q in
+    let rest : bit_and q (p - 1) ≡ q % power n = ap (λ (m : ℕ). bit_and q (m - 1)) is ∙ by_power n q in
+    let more : n ≤ q % (2 * power n) = omega (arith, bits, high) in
+    rest ∙ widened n q (nat_lt (q % (2 * power n)) n) refl more
 
 pub growth_divides_one : (n hash : ℕ) → 0 < n → (home (n + 1) hash ≡ home n hash) ⊎ ((home n hash ≡ split_home n) × (home (n + 1) hash ≡ n))
 growth_divides_one n hash some =

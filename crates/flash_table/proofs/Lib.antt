@@ -1,4 +1,5 @@
 mod AtHome
+mod Behind
 mod ById
 mod ChainSlots
 mod Dividing

@@ -1,5 +1,5 @@
 -- How a home is divided: its keys that have the last home among one home more go there.
-use Rattle.std.specs.Prelude.{◌≡◌, ◌≢◌, ℕ, ◌+◌, ◌<◌, ◌^◌, Bool, false, nat_eq, List, [], ◌∷◌, length, Option, None, Some, if◌then◌else◌}
+use Rattle.std.specs.Prelude.{◌≡◌, ◌≢◌, ℕ, ◌+◌, ◌<◌, ◌^◌, Bool, false, nat_eq, List, [], ◌∷◌, map, length, Option, None, Some, if◌then◌else◌}
 use Rattle.flash_keys.specs.Classes.{Classes}
 use Rattle.flash_names.specs.KeyHash.{hash_of}
 use Rattle.flash_table.specs.declared.entry.Entry.{Entry}
@@ -23,6 +23,14 @@ goes store n h e = pair_goes n h (key_and_item store e)
 abbrev pub going : Classes → ℕ → ℕ → List Entry → ℕ
 going store n h [] = 0
 going store n h (e ∷ rest) = (if goes store n h e then 1 else 0) + going store n h rest
+
+-- which of these entries have a key of the home h among n homes
+abbrev pub going_of : Classes → ℕ → ℕ → List Entry → List Bool
+going_of store n h es = map (goes store n h) es
+
+-- which slots of a home have a key that leaves it when a home is added
+abbrev pub leaving_of : Classes → List (List Entry) → ℕ → List Bool
+leaving_of store chains from = going_of store (length chains + 1) (length chains) (chain_of chains from)
 
 -- how many keys of a home leave it when a home is added
 abbrev pub leaving : Classes → List (List Entry) → ℕ → ℕ

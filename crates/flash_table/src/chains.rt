@@ -1,21 +1,21 @@
-ghost use Rattle.std.specs.Prelude.{◌≡◌, ◌≢◌, ◌<◌, ◌+◌, ◌^◌, ℕ, List, length, IfSome, IfNone, IsSome, Some, None, OnOk, OnErr, true, false};
+ghost use Rattle.std.specs.Prelude.{◌≡◌, ◌≢◌, ◌<◌, ◌+◌, ◌^◌, ℕ, List, length, IfSome, IfNone, IsSome, Some, None, OnOk, OnErr, IfOk, true, false};
 ghost use Rattle.flash_keys.specs.Names.{NamesOnly};
 ghost use Rattle.flash_keys.specs.Room.{HasRoom};
 ghost use Rattle.std.specs.FinMap as finite;
 ghost use Rattle.flash_table.specs.Chains.{chain_of, with_entry, HasEmpty, AreChains, IsSlotOf, IsSlotOfId, RoomMade, with_group};
 ghost use Rattle.flash_table.specs.Entries.{entry_at, vacant as the_vacant};
 ghost use Rattle.flash_table.specs.Flat.{flat};
-ghost use Rattle.flash_table.specs.Growth.{leaving};
+ghost use Rattle.flash_table.specs.Growth.{leaving, leaving_of};
 ghost use Rattle.flash_table.specs.Home.{power as the_power};
 ghost use Rattle.flash_table.specs.Maps.{items_in, keys_in};
 
 use crate::chain::Chain;
 use crate::entry::{Entry, vacant};
-use crate::growth::count_going;
+use crate::growth::{Going, going_in};
 use crate::home::{home_of, tag_of};
 use flash_keys::{KeyId, KeyStore};
 use flash_names::hash_of;
-use std::alloc::AllocError;
+use std::alloc::{AllocError, Global};
 
 // The home and the slot of a key, where it is in the chains.
 pub fn slot_of_key(
@@ -138,14 +138,21 @@ fn add_group_in(chains: &mut Vec<Chain>, home: usize) -> Result<(), AllocError>
     chain.add_group()
 }
 
-// How many keys of a home have the last home among the homes with one more.
-pub fn count_leaving(keys: &KeyStore, chains: &Vec<Chain>, power: u64, from: usize) -> usize
+// Which slots of a home have a key that has the last home among the homes with one more, or out of memory.
+pub fn leaving_from(
+    alloc: Global,
+    keys: &KeyStore,
+    chains: &Vec<Chain>,
+    power: u64,
+    from: usize,
+) -> Result<Going, AllocError>
     requires from { from < length chains.now.items }
     requires few { length chains.now.items + 1 < 2 ^ 32 }
     requires power { power ≡ the_power (length chains.now.items + 1) }
-    ensures { result ≡ leaving keys.now chains.now.items from }
+    ensures slots { IfOk result (λ found. found.slots.items ≡ leaving_of keys.now chains.now.items from) }
+    ensures count { IfOk result (λ found. found.count ≡ leaving keys.now chains.now.items from) }
 {
     let homes = chains.len() as u64;
     let chain = &chains[from];
-    count_going(keys, chain, homes + 1, power, homes)
+    going_in(alloc, keys, chain, homes + 1, power, homes)
 }

@@ -1,7 +1,7 @@
 ghost use Rattle.std.specs.Prelude.{◌≡◌, ◌+◌, ◌*◌, ◌<◌, ◌^◌, ℕ, length, IfOk};
 ghost use Rattle.flash_table.specs.Chains.{chain_of};
 ghost use Rattle.flash_table.specs.Entries.{entry_at, vacant as the_vacant};
-ghost use Rattle.flash_table.specs.Growth.{goes, going, IsToDivide, IsDivided};
+ghost use Rattle.flash_table.specs.Growth.{goes, going, going_of, IsToDivide, IsDivided};
 ghost use Rattle.flash_table.specs.Home.{power as the_power};
 
 use crate::chain::Chain;
@@ -12,9 +12,9 @@ use flash_keys::KeyStore;
 use flash_names::hash_of;
 use std::alloc::{AllocError, Global};
 
-// A chain of so many empty groups, or out of memory.
+// A chain of an empty group and so many more behind it, or out of memory.
 pub fn empty_chain(alloc: Global, groups: usize) -> Result<Chain, AllocError>
-    ensures long { IfOk result (λ chain. length chain ≡ groups * 16) }
+    ensures long { IfOk result (λ chain. length chain ≡ groups * 16 + 16) }
     ensures free { IfOk result (λ chain. (i : ℕ) → entry_at chain i ≡ the_vacant) }
 {
     let mut chain = Chain::new(alloc);
@@ -41,46 +41,55 @@ pub fn goes_to(keys: &KeyStore, entry: &Entry, homes: u64, power: u64, home: u64
     }
 }
 
-// How many keys of a chain have this home among the homes.
-pub fn count_going(keys: &KeyStore, chain: &Chain, homes: u64, power: u64, home: u64) -> usize
+// Which slots of a chain have a key of one home, and how many they are.
+#[derive(Drop)]
+pub struct Going {
+    pub slots: Vec<bool>,
+    pub count: usize,
+}
+
+// Which slots of a chain have a key of this home among the homes, or out of memory. The hash of each key is computed once.
+pub fn going_in(
+    alloc: Global,
+    keys: &KeyStore,
+    chain: &Chain,
+    homes: u64,
+    power: u64,
+    home: u64,
+) -> Result<Going, AllocError>
     requires some { 0 < homes }
     requires few { homes < 2 ^ 32 }
     requires power { power ≡ the_power homes }
-    ensures { result ≡ going keys.now homes home chain.now }
+    ensures slots { IfOk result (λ found. found.slots.items ≡ going_of keys.now homes home chain.now) }
+    ensures count { IfOk result (λ found. found.count ≡ going keys.now homes home chain.now) }
 {
+    let mut slots = Vec::with_capacity(alloc, chain.len())?;
     let mut count = 0;
     'going: for slot in 0..chain.len() {
-        if goes_to(keys, &chain.at(slot), homes, power, home) {
+        let goes = goes_to(keys, &chain.at(slot), homes, power, home);
+        if goes {
             count += 1;
         }
+        slots.push(goes)?;
     }
-    count
+    Ok(Going { slots, count })
 }
 
-// Moves the keys of a home that now have the last home there, in the order in which they were.
-pub fn divide(keys: &KeyStore, chains: &mut Vec<Chain>, power: u64, from: usize, last: usize)
+// Moves the keys of a home that now have the last home there, in the order in which they were: those of the slots that
+// are marked.
+pub fn divide(keys: &KeyStore, chains: &mut Vec<Chain>, marked: &[bool], from: usize, last: usize)
     requires divide { IsToDivide keys.now chains.old.items last from }
-    requires power { power ≡ the_power (last + 1) }
+    requires marked { marked.now ≡ going_of keys.now (last + 1) last (chain_of chains.old.items from) }
     ensures { IsDivided keys.now chains.old.items chains.new.items last from }
 {
-    let homes = chains.len() as u64;
-    let slots = slots_in(chains, from);
+    let slots = marked.len();
     let mut next = 0;
     'slots: for slot in 0..slots {
-        let entry = entry_in(chains, from, slot);
-        if goes_to(keys, &entry, homes, power, last as u64) {
+        if marked[slot] {
+            let entry = entry_in(chains, from, slot);
             put_in(chains, from, slot, vacant());
             put_in(chains, last, next, entry);
             next += 1;
         }
     }
-}
-
-// The number of slots of a home.
-fn slots_in(chains: &Vec<Chain>, home: usize) -> usize
-    requires { home < length chains.now.items }
-    ensures { result ≡ length (chain_of chains.now.items home) }
-{
-    let chain = &chains[home];
-    chain.len()
 }

@@ -10,8 +10,12 @@ pub fn home_of(hash: u64, homes: u64, power: u64) -> u64
     ensures inside { result < homes }
 {
     let quotient = hash / 256;
-    let wide = quotient % (2 * power);
-    if wide < homes { wide } else { quotient % power }
+    let wide = quotient & (2 * power - 1);
+    if wide < homes {
+        wide
+    } else {
+        quotient & (power - 1)
+    }
 }
 
 // The tag of a hash.

@@ -18,6 +18,7 @@ mod entry;
 mod group;
 mod growth;
 mod home;
+mod overflow;
 mod search;
 mod table;
 

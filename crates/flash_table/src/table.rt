@@ -7,7 +7,7 @@ ghost use Rattle.flash_table.specs.Table.{TableState, Forgets, Takes, HasOneId, 
 
 use crate::chain::Chain;
 use crate::chains::{
-    count_leaving, entry_in, first_empty_in, make_room, put_in, slot_of_id, slot_of_key, take_out,
+    entry_in, first_empty_in, leaving_from, make_room, put_in, slot_of_id, slot_of_key, take_out,
 };
 use crate::entry::Entry;
 use crate::growth::{divide, empty_chain};
@@ -146,10 +146,10 @@ impl Table {
         let homes = self.chains.len();
         let from = homes - self.power as usize;
         let power = power_after(homes as u64, self.power);
-        let leaving = count_leaving(&self.keys, &self.chains, power, from);
-        let fresh = empty_chain(alloc, leaving / 16 + 1)?;
+        let leaving = leaving_from(alloc, &self.keys, &self.chains, power, from)?;
+        let fresh = empty_chain(alloc, leaving.count / 16)?;
         self.chains.push(fresh)?;
-        divide(&self.keys, &mut self.chains, power, from, homes);
+        divide(&self.keys, &mut self.chains, &leaving.slots, from, homes);
         self.power = power;
         Ok(())
     }

@@ -12,6 +12,9 @@ use Rattle.flash_items.proofs.items.Items.remove.Goals as goal
 pub remove-entry-requires : goal.remove-entry-requires
 remove-entry-requires c = slot_some c.self.inside.table c.self.inside.entries c.self.inside.segments c.args.self.now c.self.invariant c.self.view_is c.args.id c.requires
 
+pub remove-requires : goal.remove-requires
+remove-requires c = has_card c.self.inside.table c.self.inside.entries c.self.inside.segments c.args.self.now c.self.invariant c.self.view_is c.args.id c.requires
+
 pub invariant_of-self : goal.invariant_of-self
 invariant_of-self c = rw c.remove.ensures (taken c.self.inside.table c.take.new.self c.self.inside.entries c.remove-entry.new.self c.self.inside.segments c.args.self.now c.self.invariant c.self.view_is c.args.id c.remove-entry.result c.remove-entry.ensures.value c.remove-entry.ensures.updates (λ key name. c.take.ensures.taken.removed ∙ ap (remove c.self.inside.table.map) (one_value (get c.self.inside.table.keys c.remove-entry.result.key.number) c.take.ensures.taken.key key c.take.ensures.taken.named name)) c.take.ensures.keys).0
 

@@ -1,7 +1,7 @@
 use Rattle.std.proofs.Common.{◌≡◌, ◌<◌, ◌*◌, ℕ}
 use Rattle.flash_table.specs.Entries.{entry_at}
 use Rattle.flash_table.specs.Flat.{flat}
-use Rattle.flash_table.proofs.chain.Chain.first_empty.Given as goal
+use Rattle.flash_table.proofs.overflow.Overflow.first_empty.Given as goal
 
 -- no slot of the groups so far is empty
 abbrev pub invariant-groups : goal.invariant-groups

@@ -1,7 +1,7 @@
 use Rattle.std.proofs.Common.{◌<◌, ◌*◌, ℕ}
 use Rattle.flash_table.specs.Entries.{entry_at, IsFor}
 use Rattle.flash_table.specs.Flat.{flat}
-use Rattle.flash_table.proofs.chain.Chain.slot_of.Given as goal
+use Rattle.flash_table.proofs.overflow.Overflow.slot_of.Given as goal
 
 -- no slot of the groups so far is for the key
 abbrev pub invariant-chain : goal.invariant-chain

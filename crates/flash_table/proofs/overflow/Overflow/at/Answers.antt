@@ -3,7 +3,7 @@ use Rattle.flash_table.specs.Entries.{entry_at}
 use Rattle.flash_table.specs.Flat.{flat}
 use Rattle.flash_table.proofs.Flat.{whole_length, any_default}
 use Rattle.flash_table.proofs.Groups.{chain_at}
-use Rattle.flash_table.proofs.chain.Chain.at.Goals as goal
+use Rattle.flash_table.proofs.overflow.Overflow.at.Goals as goal
 
 pub index-group-requires : goal.index-group-requires
 index-group-requires c = omega (arith, whole_length c.self.inside.groups.items c.self.invariant, ap length c.self.view_is, c.requires)

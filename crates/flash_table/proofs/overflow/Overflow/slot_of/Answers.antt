@@ -1,7 +1,8 @@
-use Rattle.std.proofs.Common.{sym, subst, arith}
+use Rattle.std.proofs.Common.{length, ap, sym, subst, arith}
 use Rattle.flash_table.specs.Entries.{IsFor}
+use Rattle.flash_table.proofs.Flat.{whole_length}
 use Rattle.flash_table.proofs.Loops.{slot_is, slot_inside, none_next, nothing_left}
-use Rattle.flash_table.proofs.chain.Chain.slot_of.Goals as goal
+use Rattle.flash_table.proofs.overflow.Overflow.slot_of.Goals as goal
 
 pub returns-in-Some-clause-found : goal.returns-in-Some-clause-found
 returns-in-Some-clause-found c =
@@ -25,3 +26,9 @@ pub returns-clause-none : goal.returns-clause-none
 returns-clause-none c =
     nothing_left c.self.inside.groups.items c.deref-group-items.result.now c.args.self.now c.deref-group-items.ensures.value c.self.view_is c.self.invariant
     (IsFor c.args.keys.now c.args.tag c.args.key.now) c.chain.number (omega arith) c.chain.invariant
+
+pub returns-in-Some-clause-few : goal.returns-in-Some-clause-few
+returns-in-Some-clause-few c = omega (arith, whole_length c.self.inside.groups.items c.self.invariant, ap length c.self.view_is, ap length c.deref-group-items.ensures.value)
+
+pub returns-clause-few : goal.returns-clause-few
+returns-clause-few c = omega (arith, whole_length c.self.inside.groups.items c.self.invariant, ap length c.self.view_is, ap length c.deref-group-items.ensures.value)

@@ -1,7 +1,8 @@
-use Rattle.std.proofs.Common.{◌≡◌, ap, ◌∙◌, arith}
+use Rattle.std.proofs.Common.{length, ◌≡◌, ap, ◌∙◌, arith}
 use Rattle.flash_table.specs.declared.entry.Entry.{Entry}
+use Rattle.flash_table.proofs.Flat.{whole_length}
 use Rattle.flash_table.proofs.Loops.{slot_is, slot_inside, none_seen, none_next, nothing_left}
-use Rattle.flash_table.proofs.chain.Chain.first_empty.Goals as goal
+use Rattle.flash_table.proofs.overflow.Overflow.first_empty.Goals as goal
 
 abbrev IsEmpty : Entry → Type 0
 IsEmpty e = e.tag ≡ 0
@@ -31,3 +32,9 @@ pub returns-clause-none : goal.returns-clause-none
 returns-clause-none c =
     nothing_left c.self.inside.groups.items c.deref-group-items.result.now c.args.self.now c.deref-group-items.ensures.value c.self.view_is c.self.invariant
     IsEmpty c.groups.number (omega arith) c.groups.invariant
+
+pub returns-then-slot-lt16-clause-few : goal.returns-then-slot-lt16-clause-few
+returns-then-slot-lt16-clause-few c = omega (arith, whole_length c.self.inside.groups.items c.self.invariant, ap length c.self.view_is, ap length c.deref-group-items.ensures.value)
+
+pub returns-clause-few : goal.returns-clause-few
+returns-clause-few c = omega (arith, whole_length c.self.inside.groups.items c.self.invariant, ap length c.self.view_is, ap length c.deref-group-items.ensures.value)

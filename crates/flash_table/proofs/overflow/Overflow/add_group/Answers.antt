@@ -2,7 +2,7 @@ use Rattle.std.proofs.Common.{◌≡◌, ap, ◌∙◌, ◌++◌, ◌∷◌, [],
 use Rattle.flash_table.specs.declared.entry.Entry.{Entry}
 use Rattle.flash_table.specs.Flat.{flat}
 use Rattle.flash_table.proofs.Flat.{whole_push, flat_push}
-use Rattle.flash_table.proofs.chain.Chain.add_group.Goals as goal
+use Rattle.flash_table.proofs.overflow.Overflow.add_group.Goals as goal
 
 pushed : (c : goal.After-push_reserved) → c.push_reserved.new.self.items ≡ c.self.inside.groups.items ++ c.empty.result ∷ []
 pushed c = c.push_reserved.ensures.items ∙ ap (λ (gs : List (List Entry)). gs ++ c.empty.result ∷ []) c.reserve_exact.ensures.items
