@@ -22,8 +22,10 @@ pub fn run_check<S: Source, K: Sink>(
     ensures usage { (result ≡ CheckStatus.Usage) ↔ (asks_check words.now ≡ false) }
     ensures untouched { result ≡ CheckStatus.Usage → (source.new ≡ source.old) × (sink.new ≡ sink.old) }
     ensures unwritten { writes_nothing result ≡ true → sink.new ≡ sink.old }
-    ensures checked { IsChecked (outside S.left S.faults K.held K.faults source.old source.new sink.old sink.new) result }
-    ensures faults { HasCause (outside S.left S.faults K.held K.faults source.old source.new sink.old sink.new) result }
+    ensures checked { IsChecked
+        (outside S.left S.faults K.held K.faults source.old source.new sink.old sink.new) result }
+    ensures faults { HasCause
+        (outside S.left S.faults K.held K.faults source.old source.new sink.old sink.new) result }
 {
     if !asks_check(words) {
         return CheckStatus::Usage;
