@@ -1,13 +1,13 @@
 -- The queue without a slot, and how often a slot is in it.
 use Rattle.std.proofs.Common.{◌≡◌, ℕ, zero, suc, ◌+◌, ◌<◌, ◌≤◌, Bool, true, false, cond, not, eqb, List, [], ◌∷◌, ◌++◌, length, get_or, Option, None, Some, sym, ap, ◌∙◌, refl, arith, eq-eqb}
-use Rattle.std.specs.Prelude.{find, position, remove}
+use Rattle.std.specs.Prelude.{find, position, remove, slice_index}
 use Rattle.std.specs.List.{position_or_len}
 use Rattle.std.specs.Option.{option_to_list}
 use Rattle.std.proofs.lemmas.Bool.Decides.{nat_tests}
 use Rattle.std.proofs.lemmas.List.Quantifiers.{position-Some}
 use Rattle.std.proofs.lemmas.Bool.{ne_eqb, false≢true}
 use borrow.Author.Tests.{eqb-true}
-use Rattle.flash_io.specs.Queue.{without, count_of, IsFirst}
+use Rattle.flash_io.specs.Queue.{without, count_of}
 
 -- where the first that passes is taken out, it is found, and the queue is without it
 taken : (p : ℕ → Bool) (xs : List ℕ) (i : ℕ) → i < length xs → p (get_or xs i 0) ≡ true → ((k : ℕ) → k < i → p (get_or xs k 0) ≡ false) → (find p xs ≡ Some (get_or xs i 0)) × (remove xs i ≡ without (get_or xs i 0) xs)
@@ -41,6 +41,12 @@ without-absent slot (x ∷ xs) e =
       | true ↦ λ none. absurd (cc)
       | false ↦ λ none. ap (λ r. x ∷ r) (without-absent slot xs none)
     ] e
+
+-- the slot at the index is the first in the queue that passes
+pub record IsFirst (p : ℕ → Bool) (queue : List ℕ) (index : ℕ) : Type 0 where
+  pub inside : index < length queue
+  pub found : find p queue ≡ Some (slice_index queue index)
+  pub left : remove queue index ≡ without (slice_index queue index) queue
 
 -- what `position` says of the queue
 pub is_first : (p : ℕ → Bool) (xs : List ℕ) (i : ℕ) → position p xs ≡ Some i → IsFirst p xs i
