@@ -1,12 +1,10 @@
 //! The items of the cache beside a `HashMap` of the standard library with the same keys.
 mod cache;
-mod keys;
 mod map;
 mod memory;
 
 use memory::resident_kilobytes;
 use std::io;
-use std::time::Instant;
 
 // How many keys are measured, how many are stored on the way to the slowest insert, and how many a tiny run has.
 const KEYS: u64 = 1_000_000;
@@ -68,9 +66,4 @@ fn print_both(rt: &HostRuntime, name: &str, ours: u64, theirs: u64) -> io::Resul
     let percent = ours.saturating_mul(100) / theirs.max(1);
     let (one, other) = (ours / KEYS, theirs / KEYS);
     println!(rt; "{name}: items {one} ns, HashMap {other} ns, {percent} %")
-}
-
-// The nanoseconds since the start.
-fn nanos_since(rt: &HostRuntime, start: Instant) -> io::Result<u64> {
-    Ok(u64::try_from(start.elapsed(rt)?.as_nanos()).unwrap_or(u64::MAX))
 }

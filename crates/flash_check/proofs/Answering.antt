@@ -3,7 +3,6 @@ use Rattle.std.proofs.Common.{◌≡◌, ◌≢◌, ℕ, ◌<◌, Bool, true, fa
 use Rattle.std.proofs.lemmas.List.{append-nil}
 use Rattle.flash_names.specs.declared.geometry.Geometry.{Geometry}
 use Rattle.flash_names.specs.Source.{IsAtEnd}
-use Rattle.flash_names.specs.Told.{with_front}
 use Rattle.flash_entry.specs.declared.entry.Entry.{Entry}
 use Rattle.flash_entry.specs.declared.entry_fault.EntryFault.{EntryFault}
 use Rattle.flash_entry.specs.declared.geometry_line.HeadFault.{HeadFault}
@@ -11,8 +10,11 @@ use Rattle.flash_entry.specs.GeometryLine.{geometry_of_line}
 use Rattle.flash_entry.specs.EntryReading.{reading}
 use Rattle.flash_check.specs.declared.status.CheckStatus.{CheckStatus}
 use Rattle.flash_check.specs.declared.status.CheckStatus.TheVariants as statuses
-use Rattle.flash_check.specs.Ends.{HasRead, IsWritten, IsAnswered, IsChecked, IsSaid, writes_nothing}
-use Rattle.flash_check.specs.Lines.{lines_of}
+use Rattle.flash_streams.specs.Reading.{HasRead}
+use Rattle.flash_streams.proofs.Left.{Leaves, leaves}
+use Rattle.flash_streams.specs.Writing.{IsWritten}
+use Rattle.flash_check.specs.Ends.{IsAnswered, IsChecked, IsSaid, writes_nothing}
+use Rattle.flash_streams.specs.Lines.{lines_of}
 use Rattle.flash_check.specs.Outside.{Outside}
 use Rattle.flash_check.specs.Texts.{answer_text}
 use Rattle.flash_check.specs.Verdicts.{broken_by, next_line, by_rule, by_reading, entries_verdict, by_geometry, lines_verdict, verdict_on}
@@ -76,16 +78,6 @@ said bytes held held_after faults faults_after statuses.SourceFault is same writ
 said bytes held held_after faults faults_after statuses.SinkFault is same written = absurd (cc is)
 said bytes held held_after faults faults_after statuses.NoMemory is same written = absurd (cc is)
 
--- what a source that told all its bytes has left
-record Leaves (all bytes : List ℕ) (left_after : Option (List ℕ)) : Type 0 where
-  rest : List ℕ
-  parts : all ≡ bytes ++ rest
-  tells : left_after ≡ Some rest
-
-leaves : (all bytes : List ℕ) (left_after : Option (List ℕ)) → Some all ≡ with_front bytes left_after → Leaves all bytes left_after
-leaves all bytes None taken = absurd (cc taken)
-leaves all bytes (Some rest) taken = record { rest = rest; parts = cc; tells = refl }
-
 -- the answer on what was read is that on all that the source tells
 of_all : (all bytes : List ℕ) (left_after : Option (List ℕ)) → Leaves all bytes left_after → IsAtEnd left_after ⊎ (16777216 < length bytes) → verdict_on all ≡ verdict_on bytes
 of_all all bytes left_after left (inl end) =
@@ -100,7 +92,7 @@ ended : (bytes : List ℕ) (left_after : Option (List ℕ)) (status : CheckStatu
 ended bytes left_after status is (inl end) other = end
 ended bytes left_after status is (inr long) other = absurd (other (sym is ∙ on_long bytes long))
 
-module _ (bytes : List ℕ) (told : Outside) (read : HasRead bytes told.left told.left_after) where
+module _ (bytes : List ℕ) (told : Outside) (read : HasRead 16777216 bytes told.left told.left_after) where
   answered : (status : CheckStatus) → verdict_on bytes ≡ status → IsWritten (answer_text status) told.held told.held_after → IsAnswered status told
   answered status is written = record {
     bytes = bytes;

@@ -12,10 +12,10 @@ use Rattle.flash_machine.specs.declared.machine.Machine.{Machine}
 use Rattle.flash_machine.specs.declared.machine.Verdict.TheVariants as verdicts
 use Rattle.flash_check.specs.declared.status.CheckStatus.{CheckStatus}
 use Rattle.flash_check.specs.declared.status.CheckStatus.TheVariants.{Legal, Illegal, BadLine}
-use Rattle.flash_check.specs.Lines.{Lines, lines_of}
+use Rattle.flash_streams.specs.Lines.{Lines, lines_of}
 use Rattle.flash_check.specs.LineVerdicts.{line_verdict, StandsWith}
 use Rattle.flash_check.specs.Verdicts.{broken_by, next_line, by_rule, by_reading, entries_verdict}
-use Rattle.flash_check.proofs.LineCuts.{lines_cut, lines-cut}
+use Rattle.flash_streams.proofs.LineCuts.{lines_cut, lines-cut}
 
 -- the answer on these bytes after a journal
 abbrev pub on_bytes : Geometry → List Entry → List ℕ → CheckStatus

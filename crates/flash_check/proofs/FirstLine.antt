@@ -6,9 +6,9 @@ use Rattle.flash_names.specs.Cut.{cut_at}
 use Rattle.flash_entry.specs.declared.geometry_line.HeadFault.{HeadFault}
 use Rattle.flash_entry.specs.GeometryLine.{geometry_of_line}
 use Rattle.flash_check.specs.declared.status.CheckStatus.TheVariants.{BadLine}
-use Rattle.flash_check.specs.Lines.{Lines, lines_of}
+use Rattle.flash_streams.specs.Lines.{Lines, lines_of}
 use Rattle.flash_check.specs.Verdicts.{by_geometry, entries_verdict, lines_verdict, verdict_on}
-use Rattle.flash_check.proofs.LineCuts.{lines_cut, lines-cut}
+use Rattle.flash_streams.proofs.LineCuts.{lines_cut, lines-cut}
 
 -- more bytes than a journal may have
 pub on_long : (bytes : List ℕ) → 16777216 < length bytes → verdict_on bytes ≡ BadLine 0

@@ -20,7 +20,7 @@ use Rattle.flash_machine.specs.Deciding.{RulesDecide}
 use Rattle.flash_check.specs.declared.status.CheckStatus.{CheckStatus}
 use Rattle.flash_check.specs.declared.status.CheckStatus.TheVariants.{Legal, BadLine}
 use Rattle.flash_check.specs.JournalLaws.{IsRun, EachRunIsLegal}
-use Rattle.flash_check.specs.Lines.{Lines, lines_of, in_first_line}
+use Rattle.flash_streams.specs.Lines.{Lines, lines_of, in_first_line}
 use Rattle.flash_check.specs.Verdicts.{broken_by, next_line, by_rule, by_reading, entries_verdict, by_geometry, lines_verdict, verdict_on}
 use Rattle.flash_check.proofs.Deciding.{on_bytes, length-push}
 use Rattle.flash_check.proofs.FirstLine.{on_long, by_lines}

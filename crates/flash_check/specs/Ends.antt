@@ -1,8 +1,9 @@
 -- How a check ends, by what its source and its sink tell before it and after it.
-use Rattle.std.specs.Prelude.{◌≡◌, ◌≢◌, ◌⊎◌, ℕ, ◌<◌, ◌≤◌, Bool, true, false, List, ◌++◌, length, Option, Some}
+use Rattle.std.specs.Prelude.{◌≡◌, ◌≢◌, ℕ, Bool, true, false, List, Option, Some}
 use Rattle.flash_names.specs.Source.{IsAtEnd}
 use Rattle.flash_names.specs.Faults.{Rose}
-use Rattle.flash_names.specs.Told.{with_front, with_more}
+use Rattle.flash_streams.specs.Reading.{HasRead}
+use Rattle.flash_streams.specs.Writing.{IsWritten, IsBegun}
 use Rattle.flash_check.specs.declared.status.CheckStatus.{CheckStatus}
 use Rattle.flash_check.specs.declared.status.CheckStatus.TheVariants as statuses
 use Rattle.flash_check.specs.declared.status.TheConstants.{MAX_BYTES}
@@ -10,28 +11,11 @@ use Rattle.flash_check.specs.Outside.{Outside}
 use Rattle.flash_check.specs.Texts.{answer_text}
 use Rattle.flash_check.specs.Verdicts.{verdict_on}
 
--- these bytes were read: all that there are, or more than a journal may have, but by 65,536 at most
-pub record HasRead (bytes : List ℕ) (left left_after : Option (List ℕ)) : Type 0 where
-  pub taken : left ≡ with_front bytes left_after
-  pub whole : IsAtEnd left_after ⊎ (MAX_BYTES < length bytes)
-  pub bounded : length bytes ≤ 16842752
-
--- these bytes were written, and none after them
-abbrev pub IsWritten : List ℕ → Option (List ℕ) → Option (List ℕ) → Type 0
-IsWritten bytes held held_after = held_after ≡ with_more bytes held
-
--- a front part of them was written
-pub record IsBegun (bytes : List ℕ) (held held_after : Option (List ℕ)) : Type 0 where
-  pub front : List ℕ
-  pub rest : List ℕ
-  pub parts : bytes ≡ front ++ rest
-  pub written : IsWritten front held held_after
-
 -- The answer is that on the bytes that were read, and its line was written and nothing else. Nothing is left of the
 -- source, unless the bytes were too many, and where the source tells all its bytes, it is the answer on them.
 pub record IsAnswered (status : CheckStatus) (told : Outside) : Type 0 where
   pub bytes : List ℕ
-  pub read : HasRead bytes told.left told.left_after
+  pub read : HasRead MAX_BYTES bytes told.left told.left_after
   pub answer : verdict_on bytes ≡ status
   pub of_all : (all : List ℕ) → told.left ≡ Some all → verdict_on all ≡ status
   pub at_end : status ≢ statuses.BadLine 0 → IsAtEnd told.left_after
@@ -40,7 +24,7 @@ pub record IsAnswered (status : CheckStatus) (told : Outside) : Type 0 where
 -- the bytes were read, and a front part of the line of their answer was written
 pub record IsCutOff (told : Outside) : Type 0 where
   pub bytes : List ℕ
-  pub read : HasRead bytes told.left told.left_after
+  pub read : HasRead MAX_BYTES bytes told.left told.left_after
   pub begun : IsBegun (answer_text (verdict_on bytes)) told.held told.held_after
 
 -- how a check whose words ask for it ends

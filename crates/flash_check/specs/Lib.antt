@@ -2,7 +2,6 @@ pub mod CommandLine
 pub mod Ends
 pub mod JournalLaws
 pub mod LineVerdicts
-pub mod Lines
 pub mod Outside
 pub mod Texts
 pub mod Verdicts

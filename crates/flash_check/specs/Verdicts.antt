@@ -11,7 +11,7 @@ use Rattle.flash_machine.specs.Steps.{cache_of}
 use Rattle.flash_check.specs.declared.status.CheckStatus.{CheckStatus}
 use Rattle.flash_check.specs.declared.status.CheckStatus.TheVariants.{Legal, Illegal, BadLine}
 use Rattle.flash_check.specs.declared.status.TheConstants.{MAX_BYTES}
-use Rattle.flash_check.specs.Lines.{lines_of}
+use Rattle.flash_streams.specs.Lines.{lines_of}
 
 -- the lowest rule that an entry breaks after a journal, where it breaks one
 abbrev pub broken_by : Geometry → List Entry → Entry → Option ℕ

@@ -4,7 +4,7 @@ ghost use Rattle.flash_names.specs.declared.geometry.Geometry.{Geometry};
 ghost use Rattle.flash_names.specs.Geometry.{check_result};
 ghost use Rattle.flash_entry.specs.declared.entry.Entry.{Entry};
 ghost use Rattle.flash_machine.specs.Stands.{StandsFor};
-ghost use Rattle.flash_check.specs.Lines.{lines_of};
+ghost use Rattle.flash_streams.specs.Lines.{lines_of};
 ghost use Rattle.flash_check.specs.LineVerdicts.{line_verdict, StandsWith};
 ghost use Rattle.flash_check.specs.Verdicts.{verdict_on, entries_verdict};
 

@@ -9,7 +9,6 @@
 #![tactic(auto)]
 
 mod check;
-mod input;
 mod laws;
 mod output;
 mod run;

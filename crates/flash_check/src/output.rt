@@ -1,11 +1,8 @@
-// The line of an answer, and how it is written.
-ghost use Rattle.std.specs.Prelude.{◌≡◌, ◌++◌, decimal, IfOk, OnOk, OnErr};
-ghost use Rattle.flash_names.specs.Faults.{Counts};
-ghost use Rattle.flash_check.specs.Ends.{IsWritten, IsBegun};
+// The line of an answer.
+ghost use Rattle.std.specs.Prelude.{◌≡◌, ◌++◌, decimal, IfOk, OnOk};
 ghost use Rattle.flash_check.specs.Texts.{answer_text};
 
 use crate::status::CheckStatus;
-use flash_names::{Sink, SinkFault};
 use itoa::Buffer;
 use std::alloc::{AllocError, Global};
 
@@ -41,20 +38,4 @@ fn push_number(line: &mut Vec<u8>, number: u32) -> Result<(), AllocError>
     ensures { OnOk result (line.new.items ≡ line.old.items ++ decimal number) }
 {
     line.extend_from_slice(Buffer::new().format(number).as_bytes())
-}
-
-/// Writes all of these bytes, or a front part of them where a write fails.
-pub fn write_all<K: Sink>(sink: &mut K, bytes: &[u8]) -> Result<(), SinkFault>
-    ensures written { OnOk result (IsWritten bytes.now (K.held sink.old) (K.held sink.new)) }
-    ensures begun { OnErr result (IsBegun bytes.now (K.held sink.old) (K.held sink.new)) }
-    ensures counts { Counts (K.faults sink.old) (K.faults sink.new) result }
-{
-    let mut done = 0;
-    'writes: while done < bytes.len() {
-        match sink.write(&bytes[done..]) {
-            Ok(n) => done += n,
-            Err(SinkFault) => return Err(SinkFault),
-        }
-    }
-    Ok(())
 }

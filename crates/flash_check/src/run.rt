@@ -4,10 +4,10 @@ ghost use Rattle.flash_check.specs.Ends.{IsChecked, HasCause, writes_nothing, Is
 ghost use Rattle.flash_check.specs.Outside.{outside};
 
 use crate::check::check_bytes;
-use crate::input::{ReadError, read_all};
-use crate::output::{answer_line, write_all};
-use crate::status::CheckStatus;
+use crate::output::answer_line;
+use crate::status::{CheckStatus, MAX_BYTES};
 use flash_names::{Blob, Sink, SinkFault, Source};
+use flash_streams::{ReadError, read_all, write_all};
 use std::alloc::Global;
 
 /// Reads a journal to its end, decides whether it is a run of the one-thread cache, and writes the answer's line. The
@@ -30,7 +30,7 @@ pub fn run_check<S: Source, K: Sink>(
     if !asks_check(words) {
         return CheckStatus::Usage;
     }
-    match read_all(alloc, source) {
+    match read_all(alloc, MAX_BYTES, source) {
         Ok(bytes) => answer_bytes(alloc, &bytes, sink),
         Err(ReadError::Fault) => CheckStatus::SourceFault,
         Err(ReadError::NoMemory) => CheckStatus::NoMemory,

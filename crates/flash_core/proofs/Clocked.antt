@@ -1,21 +1,21 @@
--- What a reading of the clock makes of a run, and of a store.
-use Rattle.std.proofs.Common.{◌≡◌, ℕ, ◌^◌, ◌<◌, ◌≤◌, Bool, true, List, [], ◌∷◌, Option, refl, sym, subst, arith}
+-- What a reading of the clock makes of a run.
+use Rattle.std.proofs.Common.{◌≡◌, ℕ, ◌^◌, ◌<◌, ◌≤◌, Bool, true, false, List, [], ◌∷◌, refl, arith}
 use Rattle.std.specs.Prelude.{nat_lt}
 use Rattle.std.proofs.lemmas.Bool.{cond_both}
 use Rattle.std.proofs.lemmas.Bool.Decides.{nat_tests}
-use Rattle.flash_names.specs.Told.{with_more}
 use Rattle.flash_names.specs.declared.geometry.Geometry.{Geometry}
 use Rattle.flash_entry.specs.declared.entry.Entry.{Entry}
 use Rattle.flash_entry.specs.declared.entry.Entry.TheVariants as entries
 use Rattle.flash_machine.specs.Cache.{Cache}
+use Rattle.flash_machine.specs.Moments.{is_reached}
 use Rattle.flash_machine.specs.Steps.{clock_next}
 use Rattle.flash_machine.proofs.Meeting.{clock_meets}
-use Rattle.flash_core.specs.declared.item.Item.{Item}
-use Rattle.flash_core.specs.Items.{cache_of_items}
 use Rattle.flash_core.specs.Store.{Desk, Call}
 use Rattle.flash_core.specs.Calls.{clock_to}
-use Rattle.flash_core.specs.Sound.{IsSound, IsToldRun}
-use Rattle.flash_core.proofs.Told.{Goes, told_goes_on}
+use Rattle.flash_index.specs.Listed.{IsListed}
+use Rattle.flash_core.proofs.Kept.{Keeps}
+use Rattle.flash_core.proofs.Listing.{LeavesListed}
+use Rattle.flash_core.proofs.Told.{Goes}
 
 -- a reading above the moment goes on
 rise_goes : (g : Geometry) (h : List Entry) (c : Cache) (moment : ℕ) → c.now < moment → moment ≤ 2 ^ 62 → Goes g h c (entries.Clock moment ∷ []) (clock_next c moment)
@@ -30,17 +30,26 @@ clock_goes g h c desk moment within =
     cond_both (nat_lt c.now moment) _ _ (λ (call : Call Bool). Goes g h c call.entries call.cache) (λ rises. rise_goes g h c moment (above_by c.now moment rises) within)
     (λ stays. record { legal = tt; makes = refl })
 
--- the store is sound at the new moment
-pub clock_sound : (g : Geometry) (items : List Item) (now moment last : ℕ) (told told2 : Option (List Entry)) → IsSound g items now last told → now < moment → moment ≤ 2 ^ 62
-    → told2 ≡ with_more (entries.Clock moment ∷ []) told → IsSound g items moment last told2
-clock_sound g items now moment last told told2 was above within noted =
-    let run = told_goes_on g (cache_of_items items now last) (cache_of_items items moment last) told (entries.Clock moment ∷ []) was.run
-    (λ h tells. rise_goes g h (cache_of_items items now last) moment above within) in
-    record {
-      passes = was.passes;
-      own_keys = was.own_keys;
-      own_numbers = was.own_numbers;
-      kept = was.kept;
-      within = within;
-      run = subst (IsToldRun g (cache_of_items items moment last)) (sym noted) run;
-    }
+-- the clock leaves the items and the lists
+listed_by : (c : Cache) (desk : Desk) (moment : ℕ) (rises pending : Bool) → IsListed c.items desk.lists → nat_lt c.now moment ≡ rises → is_reached c.pending_flush moment ≡ pending
+    → LeavesListed (clock_to c desk moment)
+listed_by c desk moment true true listed is reached = rw (is, reached) listed
+listed_by c desk moment true false listed is reached = rw (is, reached) listed
+listed_by c desk moment false pending listed is reached = rw is listed
+
+pub clock_listed : (c : Cache) (desk : Desk) (moment : ℕ) → IsListed c.items desk.lists → LeavesListed (clock_to c desk moment)
+clock_listed c desk moment listed = listed_by c desk moment (nat_lt c.now moment) (is_reached c.pending_flush moment) listed refl refl
+
+-- what a reading above the moment does
+abbrev pub risen : Cache → Desk → ℕ → Call Bool
+risen c desk moment = record { entries = entries.Clock moment ∷ []; cache = clock_next c moment; desk = desk; answer = true }
+
+pub clock_rises : (c : Cache) (desk : Desk) (moment : ℕ) → c.now < moment → clock_to c desk moment ≡ risen c desk moment
+clock_rises c desk moment above = let is : nat_lt c.now moment ≡ true = grind (arith, nat_tests, above) in rw is refl
+
+keeps_by : (item_max : ℕ) (c : Cache) (moment : ℕ) (pending : Bool) → is_reached c.pending_flush moment ≡ pending → moment ≤ 2 ^ 62 → Keeps item_max c → Keeps item_max (clock_next c moment)
+keeps_by item_max c moment true is within keeps = rw is (record { kept = keeps.kept; apart = keeps.apart; within = within })
+keeps_by item_max c moment false is within keeps = rw is (record { kept = keeps.kept; apart = keeps.apart; within = within })
+
+pub clock_keeps : (item_max : ℕ) (c : Cache) (moment : ℕ) → moment ≤ 2 ^ 62 → Keeps item_max c → Keeps item_max (clock_next c moment)
+clock_keeps item_max c moment within keeps = keeps_by item_max c moment (is_reached c.pending_flush moment) refl within keeps

@@ -1,126 +1,148 @@
--- What stays true of a list of items when one is taken away, put in front, or put in another's place.
-use Rattle.std.proofs.Common.{◌≡◌, ℕ, ◌≤◌, Bool, true, false, List, [], ◌∷◌, Option, None, Some, cond, if◌then◌else◌, refl, sym, ◌∙◌, ap, subst, arith}
-use Rattle.std.specs.List.{AllByRecursion}
-use Rattle.std.specs.Str.{bytes_eq}
-use Rattle.flash_core.specs.declared.item.Item.{Item}
-use Rattle.flash_core.specs.Items.{find_item, without, replaced, keys_of, HaveOwnKeys, AreKept}
-use Rattle.flash_core.specs.Indexes.{IsIndex, without_index}
-use Rattle.flash_core.specs.Calls.{keys_without}
-use Rattle.flash_core.proofs.Keys.{same_key, bytes_eq-refl}
-use Rattle.flash_core.proofs.Pairs.{find-without, find-replaced, behind_other}
+-- What a store keeps of its items stays so after each call.
+use Rattle.std.proofs.Common.{◌≡◌, ℕ, ◌+◌, ◌^◌, ◌<◌, ◌≤◌, Bool, true, false, List, length, Option, None, Some, if◌then◌else◌, refl, sym, ◌∙◌, ap, subst, arith}
+use Rattle.std.specs.Prelude.{nat_lt, nat_le}
+use Rattle.std.specs.Option.{option_or}
+use Rattle.std.specs.FinMap as finite
+use Rattle.std.proofs.lemmas.Bool.Decides.{nat_tests}
+use Rattle.flash_names.specs.declared.geometry.Geometry.{Geometry}
+use Rattle.flash_names.specs.declared.place.Id.{Id}
+use Rattle.flash_entry.specs.declared.ask.Mode.{Mode}
+use Rattle.flash_entry.specs.declared.ask.Mode.TheVariants.{Set, Add, Replace, Append, Prepend}
+use Rattle.flash_entry.specs.declared.ask.Put.{Put}
+use Rattle.flash_entry.specs.declared.ask.Look.{Look}
+use Rattle.flash_entry.specs.declared.answer.Stored.{Stored}
+use Rattle.flash_entry.specs.declared.answer.Stored.TheVariants as answers
+use Rattle.flash_entry.specs.declared.entry.DropCause.{DropCause}
+use Rattle.flash_machine.specs.Item.{Item}
+use Rattle.flash_machine.specs.Cache.{Cache}
+use Rattle.flash_machine.specs.Moments.{deadline, last_moment}
+use Rattle.flash_machine.specs.Rising.{AreApart}
+use Rattle.flash_machine.specs.Storing.{mode_fails, compare_refusal, size_refusal, stored_value, stored_item, store_outcome, refusal}
+use Rattle.flash_machine.specs.Looking.{deadline_after, fetched_item, look_next}
+use Rattle.flash_core.specs.Calls.{store_call, look_call, drop_if}
+use Rattle.flash_core.specs.Items.{HasDeadline, IsKey, IsKept, AreKept}
+use Rattle.flash_core.specs.Store.{Desk, Call}
+use Rattle.flash_core.specs.Sweeps.{is_expired_at, sweep_step, sweep}
+use Rattle.flash_core.proofs.Keeping.{kept-removed, kept-inserted, apart-removed, apart-inserted, alone_above, alone_own}
 
--- a key that isn't there stays so
-cond_none : (b : Bool) (found : Option Item) → found ≡ None → cond b None found ≡ None
-cond_none true found none = refl
-cond_none false found none = none
+-- what a store keeps of a cache's items
+pub record Keeps (item_max : ℕ) (c : Cache) : Type 0 where
+  pub kept : AreKept item_max c.last_cas c.items
+  pub apart : AreApart c.items
+  pub within : c.now ≤ last_moment
 
-own_step : (k : List ℕ) (i : Item) (is : List Item) (a : Bool) → find_item i.key is ≡ None → HaveOwnKeys is → find_item i.key (without k is) ≡ None → HaveOwnKeys (without k is)
-    → HaveOwnKeys (if a then is else i ∷ without k is)
-own_step k i is true none own rest own_rest = own
-own_step k i is false none own rest own_rest = (rest, own_rest)
+without : (item_max : ℕ) (c : Cache) (k : List ℕ) → Keeps item_max c → Keeps item_max (record c { items = finite.remove c.items k })
+without item_max c k keeps = record {
+  kept = kept-removed item_max c.last_cas c.items k keeps.kept;
+  apart = apart-removed c.items k keeps.apart;
+  within = keeps.within;
+}
 
-pub own-without : (k : List ℕ) (is : List Item) → HaveOwnKeys is → HaveOwnKeys (without k is)
-own-without k [] own = tt
-own-without k (i ∷ is) own =
-    own_step k i is (bytes_eq k i.key) own.0 own.1 (find-without k is own.1 i.key ∙ cond_none (bytes_eq i.key k) (find_item i.key is) own.0) (own-without k is own.1)
+module _ (item_max : ℕ) (c : Cache) (desk : Desk) (keeps : Keeps item_max c) where
+  sweep_by : (key : List ℕ) (dead : Bool) → Keeps item_max (sweep_step c desk key dead).cache
+  sweep_by key true = without item_max c key keeps
+  sweep_by key false = keeps
 
--- the key is gone
-pub none-without : (k : List ℕ) (is : List Item) → HaveOwnKeys is → find_item k (without k is) ≡ None
-none-without k is own = find-without k is own k ∙ ap (λ b. cond b None (find_item k is)) (bytes_eq-refl k)
+  pub sweep_keeps : (key : List ℕ) → Keeps item_max (sweep c desk key).cache
+  sweep_keeps key = sweep_by key (is_expired_at c (finite.get c.items key))
 
-pub own-in_front : (k : List ℕ) (new : Item) (is : List Item) → new.key ≡ k → HaveOwnKeys is → HaveOwnKeys (new ∷ without k is)
-own-in_front k new is key own = (ap (λ (l : List ℕ). find_item l (without k is)) key ∙ none-without k is own, own-without k is own)
+  pub drop_keeps : (cause : DropCause) (key : Option (List ℕ)) → Keeps item_max (drop_if c desk cause key).cache
+  drop_keeps cause None = keeps
+  drop_keeps cause (Some key) = without item_max c key keeps
 
-own_replaced_step : (k : List ℕ) (new i : Item) (is : List Item) (a : Bool) → bytes_eq k i.key ≡ a → new.key ≡ k → find_item i.key is ≡ None → HaveOwnKeys is
-    → (a ≡ false → find_item i.key (replaced k new is) ≡ None) → (a ≡ false → HaveOwnKeys (replaced k new is))
-    → HaveOwnKeys (if a then new ∷ is else i ∷ replaced k new is)
-own_replaced_step k new i is true ka key none own rest own_rest = (ap (λ (l : List ℕ). find_item l is) (key ∙ same_key k i.key ka) ∙ none, own)
-own_replaced_step k new i is false ka key none own rest own_rest = (rest refl, own_rest refl)
+-- a sweep leaves the moment and the last CAS number
+moment_by : (c : Cache) (desk : Desk) (key : List ℕ) (dead : Bool) → (sweep_step c desk key dead).cache.now ≡ c.now
+moment_by c desk key true = refl
+moment_by c desk key false = refl
 
--- an item whose key is another than the one that is replaced
-other_key : (k : List ℕ) (i new : Item) (is : List Item) (b : Bool) → bytes_eq k i.key ≡ false → bytes_eq i.key k ≡ b → find_item i.key is ≡ None → cond b (Some new) (find_item i.key is) ≡ None
-other_key k i new is true ka qb none = absurd (cc (ka, ap (λ (l : List ℕ). bytes_eq k l) (same_key i.key k qb) ∙ bytes_eq-refl k))
-other_key k i new is false ka qb none = none
+pub moment_swept : (c : Cache) (desk : Desk) (key : List ℕ) → (sweep c desk key).cache.now ≡ c.now
+moment_swept c desk key = moment_by c desk key (is_expired_at c (finite.get c.items key))
 
-pub own-replaced : (k : List ℕ) (new : Item) (is : List Item) (old : Item) → new.key ≡ k → find_item k is ≡ Some old → HaveOwnKeys is → HaveOwnKeys (replaced k new is)
-own-replaced k new [] old key found own = tt
-own-replaced k new (i ∷ is) old key found own =
-    own_replaced_step k new i is (bytes_eq k i.key) refl key own.0 own.1
-    (λ other. find-replaced k new is old key (behind_other (bytes_eq k i.key) i old (find_item k is) found other) i.key ∙ other_key k i new is (bytes_eq i.key k) other refl own.0)
-    (λ other. own-replaced k new is old key (behind_other (bytes_eq k i.key) i old (find_item k is) found other) own.1)
+-- the item that is stored, where there is no refusal
+module _ (g : Geometry) (c : Cache) (put : Put) where
+  stored_deadline : (mode : Mode) (live : Option Item) → HasDeadline (deadline put.exptime c.now) → ((item : Item) → live ≡ Some item → HasDeadline item.deadline) → HasDeadline (stored_item c put mode live).deadline
+  stored_deadline Append (Some item) put_at was = was item refl
+  stored_deadline Prepend (Some item) put_at was = was item refl
+  stored_deadline Append None put_at was = put_at
+  stored_deadline Prepend None put_at was = put_at
+  stored_deadline Set live put_at was = put_at
+  stored_deadline Add live put_at was = put_at
+  stored_deadline Replace live put_at was = put_at
 
--- what is true of each item
-module _ (P : Item → Type 0) where
-  all_step : (i : Item) (is rest : List Item) (a : Bool) → AllByRecursion P (i ∷ is) → AllByRecursion P rest → AllByRecursion P (if a then is else i ∷ rest)
-  all_step i is rest true all others = all.1
-  all_step i is rest false all others = (all.0, others)
+  stored_is : (mode : Mode) (live : Option Item) → ((stored_item c put mode live).cas ≡ c.last_cas + 1) × ((stored_item c put mode live).label ≡ None) × ((stored_item c put mode live).value ≡ stored_value put mode live)
+  stored_is Append (Some item) = (refl, refl, refl)
+  stored_is Prepend (Some item) = (refl, refl, refl)
+  stored_is Append None = (refl, refl, refl)
+  stored_is Prepend None = (refl, refl, refl)
+  stored_is Set live = (refl, refl, refl)
+  stored_is Add live = (refl, refl, refl)
+  stored_is Replace live = (refl, refl, refl)
 
-  pub all-without : (k : List ℕ) (is : List Item) → AllByRecursion P is → AllByRecursion P (without k is)
-  all-without k [] all = tt
-  all-without k (i ∷ is) all = all_step i is (without k is) (bytes_eq k i.key) all (all-without k is all.1)
+  fits_by : (value : List ℕ) (large : Bool) → nat_lt g.item_max (length value) ≡ large → (if large then Some answers.TooLarge else if nat_le (2 ^ 63) c.last_cas then Some answers.NoNumber else None) ≡ None → length value ≤ g.item_max
+  fits_by value true is none = absurd (cc none)
+  fits_by value false is none = grind (arith, nat_tests)
 
-  all_replaced_step : (new i : Item) (is rest : List Item) (a : Bool) → P new → AllByRecursion P (i ∷ is) → AllByRecursion P rest → AllByRecursion P (if a then new ∷ is else i ∷ rest)
-  all_replaced_step new i is rest true one all others = (one, all.1)
-  all_replaced_step new i is rest false one all others = (all.0, others)
+  size_by : (compare : Option Stored) (value : List ℕ) → option_or compare (size_refusal g c value) ≡ None → length value ≤ g.item_max
+  size_by None value none = fits_by value (nat_lt g.item_max (length value)) refl none
+  size_by (Some s) value none = absurd (cc none)
 
-  pub all-replaced : (k : List ℕ) (new : Item) (is : List Item) → P new → AllByRecursion P is → AllByRecursion P (replaced k new is)
-  all-replaced k new [] one all = tt
-  all-replaced k new (i ∷ is) one all = all_replaced_step new i is (replaced k new is) (bytes_eq k i.key) one all (all-replaced k new is one all.1)
+  refused_by : (fails : Bool) (compare : Option Stored) (value : List ℕ) → (if fails then Some answers.NotStored else option_or compare (size_refusal g c value)) ≡ None → length value ≤ g.item_max
+  refused_by true compare value none = absurd (cc none)
+  refused_by false compare value none = size_by compare value none
 
-  found_step : (i found : Item) (rest : Option Item) (a : Bool) → P i → (rest ≡ Some found → P found) → (if a then Some i else rest) ≡ Some found → P found
-  found_step i found rest true one with_more is = let same : i ≡ found = cc in subst P same one
-  found_step i found rest false one with_more is = with_more is
+  pub stored_fits : (live : Option Item) → refusal g c put live ≡ None → length (stored_value put put.mode live) ≤ g.item_max
+  stored_fits live none = refused_by (mode_fails put.mode live) (compare_refusal put.compare live) (stored_value put put.mode live) none
 
-  -- an item that is found
-  pub all_found : (k : List ℕ) (is : List Item) (found : Item) → AllByRecursion P is → find_item k is ≡ Some found → P found
-  all_found k [] found all is = absurd (cc is)
-  all_found k (i ∷ is) found all here = found_step i found (find_item k is) (bytes_eq k i.key) all.0 (all_found k is found all.1) here
+  pub stored_kept : (live : Option Item) → refusal g c put live ≡ None → IsKey put.key → HasDeadline (deadline put.exptime c.now) → ((item : Item) → live ≡ Some item → HasDeadline item.deadline)
+      → IsKept g.item_max (c.last_cas + 1) put.key (stored_item c put put.mode live)
+  stored_kept live none named put_at was =
+      let is = stored_is put.mode live in
+      let value = is.2 in
+      let fits = stored_fits live none in
+      record {
+        named = named;
+        some = omega (arith, is.0);
+        number = omega (arith, is.0);
+        deadline = stored_deadline put.mode live put_at was;
+        size = subst (λ (v : List ℕ). length v ≤ g.item_max) (sym value) fits;
+        here = is.1;
+      }
 
--- a greater last number
-pub kept-more : (item_max last more : ℕ) (is : List Item) → last ≤ more → AreKept item_max last is → AreKept item_max more is
-kept-more item_max last more [] le all = tt
-kept-more item_max last more (i ∷ is) le all = (
-  record { some = all.0.some; number = omega (arith, all.0.number, le); deadline = all.0.deadline; size = all.0.size },
-  kept-more item_max last more is le all.1,
-)
+  outcome_keeps : (r : Option Stored) (item : Item) → (r ≡ None → IsKept g.item_max (c.last_cas + 1) put.key item) → item.cas ≡ c.last_cas + 1 → Keeps g.item_max c → Keeps g.item_max (store_outcome r c put.key item).1
+  outcome_keeps (Some s) item new number keeps = keeps
+  outcome_keeps None item new number keeps = record {
+    kept = kept-inserted g.item_max c.last_cas c.items put.key item (c.last_cas + 1) (omega arith) (new refl) keeps.kept;
+    apart = apart-inserted c.items put.key item keeps.apart (alone_above c.items g.item_max c.last_cas item.cas put.key (omega (arith, number)) keeps.kept);
+    within = keeps.within;
+  }
 
--- the key of an item that is found
-key_step : (k : List ℕ) (i found : Item) (rest : Option Item) (a : Bool) → bytes_eq k i.key ≡ a → (rest ≡ Some found → found.key ≡ k) → (if a then Some i else rest) ≡ Some found → found.key ≡ k
-key_step k i found rest true same with_more is = let one : i ≡ found = cc in ap (λ (j : Item). j.key) (sym one) ∙ sym (same_key k i.key same)
-key_step k i found rest false other with_more is = with_more is
+  pub step_keeps : IsKey put.key → HasDeadline (deadline put.exptime c.now) → Keeps g.item_max c
+      → Keeps g.item_max (store_outcome (refusal g c put (finite.get c.items put.key)) c put.key (stored_item c put put.mode (finite.get c.items put.key))).1
+  step_keeps named put_at keeps =
+      let live = finite.get c.items put.key in
+      outcome_keeps (refusal g c put live) (stored_item c put put.mode live)
+      (λ none. stored_kept live none named put_at (λ item there. (keeps.kept put.key item there).deadline))
+      (stored_is put.mode live).0 keeps
 
-pub key_found : (k : List ℕ) (is : List Item) (found : Item) → find_item k is ≡ Some found → found.key ≡ k
-key_found k [] found is = absurd (cc is)
-key_found k (i ∷ is) found here = key_step k i found (find_item k is) (bytes_eq k i.key) refl (key_found k is found) here
+pub store_keeps : (g : Geometry) (c : Cache) (desk : Desk) (id : Id) (put : Put) → IsKey put.key → HasDeadline (deadline put.exptime c.now) → Keeps g.item_max c → Keeps g.item_max (store_call g c desk id put).cache
+store_keeps g c desk id put named put_at keeps =
+    step_keeps g (sweep c desk put.key).cache put named (subst (λ n. HasDeadline (deadline put.exptime n)) (sym (moment_swept c desk put.key)) put_at) (sweep_keeps g.item_max c desk keeps put.key)
 
--- the keys in order
-keys_step : (k : List ℕ) (i : Item) (is : List Item) (a : Bool) → keys_of (without k is) ≡ keys_without k (keys_of is)
-    → keys_of (if a then is else i ∷ without k is) ≡ (if a then keys_of is else i.key ∷ keys_without k (keys_of is))
-keys_step k i is true rest = refl
-keys_step k i is false rest = ap (λ (l : List (List ℕ)). i.key ∷ l) rest
+look_by : (item_max : ℕ) (c : Cache) (key : List ℕ) (look : Look) (found : Option Item) → finite.get c.items key ≡ found
+    → ((was : Option ℕ) → HasDeadline was → HasDeadline (deadline_after look.renew was c.now)) → Keeps item_max c → Keeps item_max (look_next c key look found)
+look_by item_max c key look None there renewed keeps = keeps
+look_by item_max c key look (Some item) there renewed keeps =
+    let one = keeps.kept key item there in
+    record {
+      kept = kept-inserted item_max c.last_cas c.items key (fetched_item c look item) c.last_cas (omega arith)
+          (record { named = one.named; some = one.some; number = one.number; deadline = renewed item.deadline one.deadline; size = one.size; here = one.here }) keeps.kept;
+      apart = apart-inserted c.items key (fetched_item c look item) keeps.apart (alone_own c.items key item there keeps.apart);
+      within = keeps.within;
+    }
 
-pub keys_of-without : (k : List ℕ) (is : List Item) → keys_of (without k is) ≡ keys_without k (keys_of is)
-keys_of-without k [] = refl
-keys_of-without k (i ∷ is) = keys_step k i is (bytes_eq k i.key) (keys_of-without k is)
-
-keys_replaced_step : (k : List ℕ) (new i : Item) (is : List Item) (a : Bool) → bytes_eq k i.key ≡ a → new.key ≡ k → keys_of (replaced k new is) ≡ keys_of is → keys_of (if a then new ∷ is else i ∷ replaced k new is) ≡ i.key ∷ keys_of is
-keys_replaced_step k new i is true same key rest = ap (λ (l : List ℕ). l ∷ keys_of is) (key ∙ same_key k i.key same)
-keys_replaced_step k new i is false other key rest = ap (λ (l : List (List ℕ)). i.key ∷ l) rest
-
-pub keys_of-replaced : (k : List ℕ) (new : Item) (is : List Item) → new.key ≡ k → keys_of (replaced k new is) ≡ keys_of is
-keys_of-replaced k new [] key = refl
-keys_of-replaced k new (i ∷ is) key = keys_replaced_step k new i is (bytes_eq k i.key) refl key (keys_of-replaced k new is key)
-
--- what isn't there isn't taken away
-absent_step : (k : List ℕ) (i : Item) (is : List Item) (a : Bool) → (if a then Some i else find_item k is) ≡ None → (find_item k is ≡ None → without k is ≡ is) → (if a then is else i ∷ without k is) ≡ i ∷ is
-absent_step k i is true none rest = absurd (cc none)
-absent_step k i is false none rest = ap (λ (l : List Item). i ∷ l) (rest none)
-
-pub without-absent : (k : List ℕ) (is : List Item) → find_item k is ≡ None → without k is ≡ is
-without-absent k [] none = refl
-without-absent k (i ∷ is) none = absent_step k i is (bytes_eq k i.key) none (without-absent k is)
-
--- what a place takes away is the key's item
-pub removed_is_without : (k : List ℕ) (is : List Item) (index : Option ℕ) → IsIndex k is index → without_index index is ≡ without k is
-removed_is_without k is None none = sym (without-absent k is none)
-removed_is_without k is (Some at) index = sym index.others
+pub look_keeps : (item_max : ℕ) (c : Cache) (desk : Desk) (id : Id) (key : List ℕ) (look : Look) → ((was : Option ℕ) → HasDeadline was → HasDeadline (deadline_after look.renew was c.now)) → Keeps item_max c
+    → Keeps item_max (look_call c desk id key look).cache
+look_keeps item_max c desk id key look renewed keeps =
+    let swept = (sweep c desk key).cache in
+    look_by item_max swept key look (finite.get swept.items key) refl
+    (λ was below. subst (λ n. HasDeadline (deadline_after look.renew was n)) (sym (moment_swept c desk key)) (renewed was below)) (sweep_keeps item_max c desk keeps key)

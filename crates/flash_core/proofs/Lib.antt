@@ -1,14 +1,20 @@
-pub mod Clocked
 mod Keys
-mod Kept
-mod Lists
-mod Looked
+mod Maps
+mod Told
 pub mod News
-mod Numbers
-mod Pairs
-mod Positions
-pub mod Steps
-mod StoreDone
-mod Stored
 pub mod Sweeps
-pub mod Told
+mod Steps
+mod Clocked
+mod Rooms
+mod Listing
+mod Keeping
+mod Kept
+mod Twice
+mod Swept
+mod Stored
+mod Looked
+mod Closing
+mod Small
+mod There
+mod Dropped
+mod Shown

@@ -17,9 +17,11 @@ use Rattle.flash_machine.specs.NewSteps.{IsNew}
 use Rattle.flash_machine.proofs.Runs.{LegalFrom-append, cache_from-append}
 use Rattle.flash_machine.proofs.Meeting.{store_meets, look_meets}
 use Rattle.flash_core.specs.Store.{Desk}
-use Rattle.flash_core.specs.Calls.{sweep, store_call, look_call}
+use Rattle.flash_core.specs.Calls.{store_call, look_call}
+use Rattle.flash_core.specs.Laws.{IsHere}
+use Rattle.flash_core.specs.Sweeps.{sweep}
 use Rattle.flash_core.proofs.Told.{Goes}
-use Rattle.flash_core.proofs.Sweeps.{IsHere, sweeps}
+use Rattle.flash_core.proofs.Sweeps.{sweeps}
 
 -- entries with one more after them
 pub goes_behind : (g : Geometry) (h : List Entry) (c mid after : Cache) (es : List Entry) (e : Entry) → Goes g h c es mid → Meets g (h ++ es) mid e → next g (h ++ es) mid e ≡ after → Goes g h c (es ++ e ∷ []) after

@@ -1,5 +1,5 @@
 -- A sweep is legal, and after it the key's live item is what the cache has under the key.
-use Rattle.std.proofs.Common.{◌≡◌, ℕ, Bool, true, false, ◌&&◌, not, List, [], ◌∷◌, ◌++◌, Option, None, Some, cond, if◌then◌else◌, refl, sym, ◌∙◌, ap, subst}
+use Rattle.std.proofs.Common.{◌≡◌, ℕ, Bool, true, false, ◌&&◌, not, List, [], ◌∷◌, ◌++◌, Option, None, Some, if◌then◌else◌, refl, sym, ◌∙◌, ap, subst}
 use Rattle.std.specs.FinMap as finite
 use Rattle.std.proofs.lemmas.List.{append-nil}
 use Rattle.flash_names.specs.declared.place.Id.{Id}
@@ -12,16 +12,12 @@ use Rattle.flash_machine.specs.Cache.{Cache}
 use Rattle.flash_machine.specs.Live.{is_expired_item, is_live, label_has_ended, passing_item, live_item}
 use Rattle.flash_machine.specs.NewSteps.{IsNew}
 use Rattle.flash_machine.proofs.Meeting.{dead_meets}
+use Rattle.flash_core.specs.Laws.{IsHere}
 use Rattle.flash_core.specs.Store.{Desk, Call}
-use Rattle.flash_core.specs.Calls.{is_expired_at, sweep_step, sweep}
-pub use Rattle.flash_core.specs.Laws.{IsHere}
-use Rattle.flash_core.proofs.Keys.{bytes_eq-refl}
-use Rattle.flash_core.proofs.Pairs.{get-without_index}
+use Rattle.flash_core.specs.Sweeps.{is_expired_at, sweep_step, sweep}
+use Rattle.flash_core.proofs.Maps.{gone}
 use Rattle.flash_core.proofs.Told.{Goes}
 use Rattle.flash_core.proofs.News.{new_behind}
-
-gone : (c : Cache) (key : List ℕ) → finite.get (finite.remove c.items key) key ≡ None
-gone c key = get-without_index c.items key key ∙ ap (λ b. cond b None (finite.get c.items key)) (bytes_eq-refl key)
 
 module _ (c : Cache) (desk : Desk) (key : List ℕ) where
   goes_by : (g : Geometry) (h : List Entry) (found : Option Item) (dead : Bool) → finite.get c.items key ≡ found → is_expired_at c found ≡ dead → Goes g h c (sweep_step c desk key dead).entries (sweep_step c desk key dead).cache
@@ -39,7 +35,7 @@ module _ (c : Cache) (desk : Desk) (key : List ℕ) where
 
   live_by : (j : List Entry) (found : Option Item) (dead : Bool) → finite.get c.items key ≡ found → is_expired_at c found ≡ dead → IsHere c key
       → live_item j (sweep_step c desk key dead).cache key ≡ finite.get (sweep_step c desk key dead).cache.items key
-  live_by j found true here is plain = ap (passing_item (is_live j (sweep_step c desk key true).cache)) (gone c key) ∙ sym (gone c key)
+  live_by j found true here is plain = ap (passing_item (is_live j (sweep_step c desk key true).cache)) (gone c.items key) ∙ sym (gone c.items key)
   live_by j None false here is plain = ap (passing_item (is_live j c)) here ∙ sym here
   live_by j (Some item) false here is plain =
       ap (passing_item (is_live j c)) here ∙ live_step j item false None is refl (plain item here) refl ∙ sym here

@@ -1,82 +1,45 @@
--- The items of a store as it keeps them: a list, the one stored last in front.
-use Rattle.std.specs.Prelude.{◌≡◌, ◌≢◌, ℕ, ◌^◌, ◌<◌, ◌≤◌, List, [], ◌∷◌, length, map, Option, None, Some, IfSome, if◌then◌else◌}
-use Rattle.std.specs.List.{AllByRecursion}
-use Rattle.std.specs.Str.{bytes_eq}
-use Rattle.std.specs.FinMap as finite
-use Rattle.flash_machine.specs.Item as machine
-use Rattle.flash_machine.specs.Cache.{Items, Cache}
-use Rattle.flash_core.specs.declared.item.Item.{Item}
-
--- the first item with the key
-abbrev pub find_item : List ℕ → List Item → Option Item
-find_item key [] = None
-find_item key (i ∷ is) = if bytes_eq key i.key then Some i else find_item key is
-
--- the items but for the first with the key
-abbrev pub without : List ℕ → List Item → List Item
-without key [] = []
-without key (i ∷ is) = if bytes_eq key i.key then is else i ∷ without key is
-
--- the items with another in the place of the first with the key
-abbrev pub replaced : List ℕ → Item → List Item → List Item
-replaced key new [] = []
-replaced key new (i ∷ is) = if bytes_eq key i.key then new ∷ is else i ∷ replaced key new is
-
--- no two items have one key
-abbrev pub HaveOwnKeys : List Item → Type 0
-HaveOwnKeys [] = Unit {0}
-HaveOwnKeys (i ∷ is) = (find_item i.key is ≡ None) × HaveOwnKeys is
-
--- no two items have one CAS number
-abbrev pub HaveOwnNumbers : List Item → Type 0
-HaveOwnNumbers [] = Unit {0}
-HaveOwnNumbers (i ∷ is) = AllByRecursion (λ j. j.cas ≢ i.cas) is × HaveOwnNumbers is
+-- What a store keeps of each of its items.
+use Rattle.std.specs.Prelude.{◌≡◌, ℕ, ◌^◌, ◌<◌, ◌≤◌, List, length, Option, None, Some, IfSome, option_map}
+use Rattle.std.specs.FinMap.{get}
+use Rattle.flash_items.specs.declared.item.Parts.{Parts}
+use Rattle.flash_machine.specs.Item.{Item}
+use Rattle.flash_machine.specs.Cache.{Items}
+use Rattle.flash_index.specs.Known.{known_parts, known_value, label_of}
 
 -- a deadline, where there is one, is below 2^63
-abbrev pub HasDeadline : Item → Type 0
-HasDeadline i = IfSome i.deadline (λ moment. moment < 2 ^ 63)
+abbrev pub HasDeadline : Option ℕ → Type 0
+HasDeadline deadline = IfSome deadline (λ moment. moment < 2 ^ 63)
 
--- an item's CAS number is from 1 up to the last one, its deadline below 2^63, and its value no longer than it may be
-pub record IsKept (item_max last : ℕ) (i : Item) : Type 0 where
-  pub some : 1 ≤ i.cas
-  pub number : i.cas ≤ last
-  pub deadline : HasDeadline i
-  pub size : length i.value ≤ item_max
+-- a key has 1 to 250 bytes
+pub record IsKey (key : List ℕ) : Type 0 where
+  pub some : 1 ≤ length key
+  pub fits : length key ≤ 250
+
+-- a key's item has a CAS number from 1 up to the last one, a deadline below 2^63, and a value that is in memory and no
+-- longer than it may be
+pub record IsKept (item_max last : ℕ) (key : List ℕ) (item : Item) : Type 0 where
+  pub named : IsKey key
+  pub some : 1 ≤ item.cas
+  pub number : item.cas ≤ last
+  pub deadline : HasDeadline item.deadline
+  pub size : length item.value ≤ item_max
+  pub here : item.label ≡ None
 
 -- each item is kept so
-abbrev pub AreKept : ℕ → ℕ → List Item → Type 0
-AreKept item_max last items = AllByRecursion (IsKept item_max last) items
+abbrev pub AreKept : ℕ → ℕ → Items → Type 0
+AreKept item_max last items =
+    (key : List ℕ) (item : Item) → get items key ≡ Some item → IsKept item_max last key item
 
--- an item as the cache has it: all of it is in memory
-abbrev pub item_of : Item → machine.Item
-item_of i = record {
-  value = i.value;
-  flags = i.flags;
-  cas = i.cas;
-  deadline = i.deadline;
-  fetched = i.fetched;
-  access = i.access;
-  label = None;
-}
+-- each key that has an item is one
+abbrev pub AreKeys : Items → Type 0
+AreKeys items = (key : List ℕ) (item : Item) → get items key ≡ Some item → IsKey key
 
--- its key and the item
-abbrev pub pair_of : Item → List ℕ × machine.Item
-pair_of i = (i.key, item_of i)
+-- an item's parts under the key, where there are some, as they are known
+abbrev pub known_live : List ℕ → Option Parts → Option Item
+known_live key live = option_map (λ parts. known_parts (length key) parts) live
 
--- the items by their keys
-abbrev pub items_of : List Item → Items
-items_of is = finite.from_entries (map pair_of is)
-
--- their keys in order
-abbrev pub keys_of : List Item → List (List ℕ)
-keys_of is = map (λ i. i.key) is
-
--- the cache of a store without flushes
-abbrev pub cache_of_items : List Item → ℕ → ℕ → Cache
-cache_of_items is now last_cas =
-    record { items = items_of is; now = now; last_cas = last_cas; flush_mark = 0; pending_flush = None }
-
--- what a head needs of an item: a deadline below 2^63, and a value below 4 GiB
-pub record HasHead (i : Item) : Type 0 where
-  pub deadline : HasDeadline i
-  pub size : length i.value < 2 ^ 32
+-- what is told of an item needs a deadline below 2^63, and a value in memory below 4 GiB
+pub record IsShown (parts : Parts) : Type 0 where
+  pub deadline : HasDeadline parts.deadline
+  pub here : label_of parts.body ≡ None
+  pub size : length (known_value 0 parts.body) < 2 ^ 32

@@ -6,12 +6,12 @@ use Rattle.flash_names.specs.declared.geometry.Geometry.{Geometry}
 use Rattle.flash_names.specs.Geometry.{Passes}
 use Rattle.flash_entry.specs.declared.entry.Entry.{Entry}
 use Rattle.flash_machine.specs.Cache.{Cache}
+use Rattle.flash_machine.specs.Moments.{last_moment}
 use Rattle.flash_machine.specs.Steps.{cache_of}
 use Rattle.flash_machine.specs.Legal.{Legal}
 use Rattle.flash_machine.specs.NewSteps.{IsNew}
-use Rattle.flash_core.specs.declared.item.Item.{Item}
-use Rattle.flash_core.specs.Items.{HaveOwnKeys, HaveOwnNumbers, AreKept, cache_of_items}
-use Rattle.flash_machine.specs.Moments.{last_moment}
+use Rattle.flash_machine.specs.Rising.{AreApart}
+use Rattle.flash_core.specs.Items.{AreKept}
 
 -- the journal is a run of the one-thread cache, and this is the cache that it makes
 pub record IsRun (g : Geometry) (c : Cache) (h : List Entry) : Type 0 where
@@ -26,12 +26,12 @@ IsToldRun g c told = ForSome told (IsRun g c)
 abbrev pub IsNewTold : Option (List Entry) → Id → Type 0
 IsNewTold told id = ForSome told (λ h. IsNew h id)
 
--- whatever is done with it, a store has a geometry that keeps its rules, items with keys and CAS numbers of
--- their own, and a journal that is a run
-pub record IsSound (g : Geometry) (items : List Item) (moment last_cas : ℕ) (told : Option (List Entry)) : Type 0 where
+-- whatever is done with it, a store has a geometry that keeps its rules, items with CAS numbers of their own, three
+-- lists with their shares of the geometry's memory, and a journal that is a run
+pub record IsSound (g : Geometry) (memory : ℕ) (c : Cache) (told : Option (List Entry)) : Type 0 where
   pub passes : Passes g
-  pub own_keys : HaveOwnKeys items
-  pub own_numbers : HaveOwnNumbers items
-  pub kept : AreKept g.item_max last_cas items
-  pub within : moment ≤ last_moment
-  pub run : IsToldRun g (cache_of_items items moment last_cas) told
+  pub kept : AreKept g.item_max c.last_cas c.items
+  pub own_numbers : AreApart c.items
+  pub within : c.now ≤ last_moment
+  pub shares : memory ≡ g.memory
+  pub run : IsToldRun g c told

@@ -1,14 +1,19 @@
 -- What a store is, as its calls see it.
-use Rattle.std.specs.Prelude.{◌≡◌, ℕ, Bool, List, Option}
+use Rattle.std.specs.Prelude.{◌≡◌, ℕ, Bool, List, [], Option}
 use Rattle.flash_names.specs.Told.{with_more}
 use Rattle.flash_names.specs.declared.geometry.Geometry.{Geometry}
 use Rattle.flash_entry.specs.declared.entry.Entry.{Entry}
 use Rattle.flash_machine.specs.Cache.{Cache}
+use Rattle.flash_index.specs.KeyLists.{KeyLists, empty_lists}
 
 -- what a store has beside its cache
 pub record Desk : Type 0 where
-  -- the keys of the items, the one stored last in front
-  pub hot : List (List ℕ)
+  -- the three lists of the items' keys
+  pub lists : KeyLists
+
+-- the desk of a store without items
+abbrev pub first_desk : Desk
+first_desk = record { lists = empty_lists }
 
 -- a store by its geometry, its journal, its cache and its desk
 pub record Store : Type 0 where
@@ -26,6 +31,10 @@ pub record Call (A : Type 0) : Type 0 where
   pub cache : Cache
   pub desk : Desk
   pub answer : A
+
+-- a call that notes nothing and changes nothing
+abbrev pub idle_call : {A : Type 0} → Cache → Desk → A → Call A
+idle_call c desk answer = record { entries = []; cache = c; desk = desk; answer = answer }
 
 -- a store after a call: nothing else changes, but for whether the journal is ready
 abbrev pub Becomes : {A : Type 0} → Store → Call A → Store → Type 0

@@ -1,7 +1,8 @@
 //! The store: a cache whose every call notes what it did in a journal.
 //!
 //! `Core::open` makes an empty one over a journal. `store` and `look` are the steps of commands, `clock` sets the moment,
-//! `journal` lends the journal. A step has an `Id` of a pass and a number, which has to be new.
+//! `make_room`, `reap_one` and `juggle_one` keep the store within its memory, `journal` lends the journal. A step has an
+//! `Id` of a pass and a number, which has to be new.
 //!
 //! `specs/Calls.antt` says what each call notes, answers and leaves, from the cache and the desk before it. It is proved
 //! that each call does exactly that; that the journal is a run of the one-thread cache, where it tells its entries, and
@@ -11,16 +12,20 @@
 mod choice;
 mod clock;
 mod found;
-mod item;
-mod items;
 mod laws;
 mod look;
 mod noting;
+mod numbers;
+mod room;
+mod sought;
 mod state;
 mod store;
 
 pub use found::Found;
-pub use laws::{each_clock_goes_on, each_lookup_goes_on, each_store_goes_on};
+pub use laws::{
+    each_clock_goes_on, each_juggling_goes_on, each_lookup_goes_on, each_reaping_goes_on,
+    each_room_goes_on, each_store_goes_on,
+};
 pub use state::{Core, OpenError, OpenWhy};
 
 #[cfg(test)]

@@ -2,17 +2,19 @@
 ghost use Rattle.std.specs.Prelude.{◌≡◌, ◌∷◌, [], ◌++◌, OnOk, OnErr, IsTrue, IsOk};
 ghost use Rattle.flash_names.specs.Told.{with_more};
 ghost use Rattle.flash_entry.specs.Noted.{entry_of, entry_if};
-ghost use Rattle.flash_core.specs.Calls.{drop_of};
+ghost use Rattle.flash_core.specs.Sought.{is_expired};
+ghost use Rattle.flash_core.specs.Sweeps.{entries_of_sweep};
 
+use crate::sought::Sought;
 use flash_entry::{DropCause, Journal, Note};
 use flash_names::Key;
 use std::alloc::AllocError;
 
 // The note of a dead item that is dropped, if it is.
-pub fn dropped(key: &Key, dead: bool) -> Option<Note<'_>>
-    ensures { entry_if result ≡ drop_of key.now dead }
+pub fn dropped(key: &Key, sought: Sought) -> Option<Note<'_>>
+    ensures { entry_if result ≡ entries_of_sweep key.now (is_expired sought) }
 {
-    if dead {
+    if sought.is_expired() {
         Some(Note::Dropped(key, DropCause::Dead))
     } else {
         None

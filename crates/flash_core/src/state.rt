@@ -1,14 +1,18 @@
-ghost use Rattle.std.specs.Prelude.{◌≡◌, [], IfOk, IfErr, IsTrue};
+ghost use Rattle.std.specs.Prelude.{◌≡◌, ℕ, ◌^◌, ◌<◌, [], IfOk, IfErr, IsTrue};
 ghost use Rattle.std.specs.Option.{ForSome};
 ghost use Rattle.flash_names.specs.Geometry.{Passes, check_result};
 ghost use Rattle.flash_machine.specs.Cache.{first_cache};
+ghost use Rattle.flash_machine.specs.Load.{load_of};
+ghost use Rattle.flash_index.specs.Listed.{IsListed};
 ghost use Rattle.flash_core.specs.Open.{IsRefusedFor};
 ghost use Rattle.flash_core.specs.Sound.{IsToldRun};
+ghost use Rattle.flash_core.specs.Store.{first_desk};
 
-use crate::item::Item;
+use crate::numbers::Numbers;
 use flash_entry::Journal;
+use flash_index::Index;
 use flash_names::{BadGeometry, Geometry};
-use std::alloc::Global;
+use std::alloc::{AllocError, Global};
 use std::marker::Model;
 use thiserror::Error;
 
@@ -17,32 +21,33 @@ use thiserror::Error;
 pub struct Core<J: Journal> {
     pub(crate) geometry: Geometry,
     pub(crate) journal: J,
-    pub(crate) items: Vec<Item>,
-    pub(crate) moment: u64,
-    pub(crate) last_cas: u64,
+    pub(crate) index: Index,
+    pub(crate) numbers: Numbers,
 }
 
 impl<J: Journal> Model for Core<J> {
     ghost use Rattle.std.specs.Coded.{codes};
     ghost use Rattle.flash_machine.specs.Codes.{items_code};
+    ghost use Rattle.flash_index.specs.Codes.{lists_code};
     ghost use Rattle.flash_core.specs.Store.{Store};
 
     ghost Value = { Store };
 
-    ghost coded = { Prim.hlevel (codes, items_code) };
+    ghost coded = { Prim.hlevel (codes, items_code, lists_code) };
 
-    ghost use Rattle.flash_core.specs.Items.{cache_of_items, keys_of};
+    ghost use Rattle.flash_core.specs.Numbers.{cache_of_items};
     ghost use Rattle.flash_core.specs.Sound.{IsSound};
 
     ghost view = { λ c. record {
       geometry = c.geometry;
       told = J.told c.journal;
       ready = J.ready c.journal;
-      cache = cache_of_items c.items.items c.moment c.last_cas;
-      desk = record { hot = keys_of c.items.items };
+      cache = cache_of_items c.index.items c.numbers;
+      desk = record { lists = c.index.lists };
     } };
 
-    ghost invariant = { λ c. IsSound c.geometry c.items.items c.moment c.last_cas (J.told c.journal) };
+    ghost invariant = { λ c. IsSound c.geometry c.index.memory (cache_of_items c.index.items c.numbers)
+        (J.told c.journal) };
 }
 
 /// Why a store wasn't opened.
@@ -51,7 +56,7 @@ pub enum OpenWhy {
     /// The number of the first rule that the geometry breaks.
     #[error("the geometry breaks rule {0}")]
     BadGeometry(u32),
-    /// Memory ran out. Opening a store takes none today, so that it doesn't come.
+    /// Memory ran out.
     #[error("out of memory")]
     NoMemory,
 }
@@ -65,6 +70,14 @@ pub struct OpenError<J> {
     pub journal: J,
 }
 
+// The numbers of a store before its first call.
+const FIRST_NUMBERS: Numbers = Numbers {
+    moment: 0,
+    last_cas: 0,
+    flush_mark: 0,
+    pending_flush: None,
+};
+
 impl<J: Journal> Core<J> {
     /// An empty store of this geometry, at the moment 0. A journal that tells its entries has none. A geometry
     /// that breaks a rule is answered with the first one that it breaks. Where no store is opened, the journal
@@ -76,7 +89,7 @@ impl<J: Journal> Core<J> {
           told = J.told journal;
           ready = J.ready journal;
           cache = first_cache;
-          desk = record { hot = [] };
+          desk = first_desk;
         }) }
         ensures passes { IfOk result (λ _. Passes geometry) }
         ensures broken { IfErr (check_result geometry)
@@ -89,13 +102,32 @@ impl<J: Journal> Core<J> {
                 journal,
             });
         }
-        Ok(Core {
-            geometry,
-            journal,
-            items: Vec::new(alloc),
-            moment: 0,
-            last_cas: 0,
-        })
+        match Index::open(alloc, geometry.memory) {
+            Ok(index) => Ok(Core {
+                geometry,
+                journal,
+                index,
+                numbers: FIRST_NUMBERS,
+            }),
+            Err(AllocError) => Err(OpenError {
+                why: OpenWhy::NoMemory,
+                journal,
+            }),
+        }
+    }
+
+    /// What the items take of the memory, in bytes: 64 for each, its key, and its value where that is in memory.
+    pub fn load(&self) -> u64
+        ensures { result ≡ load_of self.now.cache.items }
+    {
+        self.index.load()
+    }
+
+    /// The three lists have the key of each item once, with the item's size. It does nothing.
+    pub fn is_listed(&self)
+        ensures { IsListed self.now.cache.items self.now.desk.lists }
+    {
+        self.index.is_listed();
     }
 
     /// The sizes that it was opened with.

@@ -86,24 +86,61 @@ fn store(core: &mut Core<Counted>, alloc: Global, put: &Put) -> Result<Stored, A
     core.store(alloc, id(1), put)
 }
 
+// The answer to a store of this value.
+fn store_as(
+    core: &mut Core<Counted>,
+    alloc: Global,
+    mode: Mode,
+    value: &[u8],
+) -> Result<Stored, AllocError>
+    requires { core.old.told ≡ None }
+    ensures { core.new.told ≡ None }
+{
+    let put = put(alloc, mode, 0, value)?;
+    store(core, alloc, &put)
+}
+
+// Whether this value is found.
+fn finds(core: &mut Core<Counted>, alloc: Global, value: &[u8]) -> Result<bool, AllocError>
+    requires { core.old.told ≡ None }
+    ensures { core.new.told ≡ None }
+{
+    let name = key(b"a")?;
+    let found = core.look(alloc, id(1), &name, LOOK)?;
+    Ok(value_of(&found) == Some(value))
+}
+
+// The answers to stores by each mode, one after the other.
+fn answers_by_mode(core: &mut Core<Counted>, alloc: Global) -> Result<[Stored; 7], AllocError>
+    requires { core.old.told ≡ None }
+    ensures { core.new.told ≡ None }
+{
+    Ok([
+        store_as(core, alloc, Mode::Replace, b"r")?,
+        store_as(core, alloc, Mode::Append, b"z")?,
+        store_as(core, alloc, Mode::Add, b"xy")?,
+        store_as(core, alloc, Mode::Add, b"xy")?,
+        store_as(core, alloc, Mode::Append, b"z")?,
+        store_as(core, alloc, Mode::Prepend, b"w")?,
+        store_as(core, alloc, Mode::Set, &[b'x'; 1025])?,
+    ])
+}
+
 #[test]
 fn stores_by_mode(rt: HostRuntime) -> Result<(), Fail> {
-    let alloc = rt.alloc();
-    let mut core = open_counted(alloc)?;
-    let replace = put(alloc, Mode::Replace, 0, b"r")?;
-    let add = put(alloc, Mode::Add, 0, b"xy")?;
-    let append = put(alloc, Mode::Append, 0, b"z")?;
-    let prepend = put(alloc, Mode::Prepend, 0, b"w")?;
-    let large = put(alloc, Mode::Set, 0, &[b'x'; 1025])?;
-    assert_eq!(rt; store(&mut core, alloc, &replace)?, Stored::NotStored);
-    assert_eq!(rt; store(&mut core, alloc, &append)?, Stored::NotStored);
-    assert_eq!(rt; store(&mut core, alloc, &add)?, Stored::Stored(1));
-    assert_eq!(rt; store(&mut core, alloc, &add)?, Stored::NotStored);
-    assert_eq!(rt; store(&mut core, alloc, &append)?, Stored::Stored(2));
-    assert_eq!(rt; store(&mut core, alloc, &prepend)?, Stored::Stored(3));
-    assert_eq!(rt; store(&mut core, alloc, &large)?, Stored::TooLarge);
-    let found = core.look(alloc, id(1), &key(b"a")?, LOOK)?;
-    assert_eq!(rt; value_of(&found), Some(b"wxyz".as_slice()));
+    let mut core = open_counted(rt.alloc())?;
+    let answers = answers_by_mode(&mut core, rt.alloc())?;
+    let wanted = [
+        Stored::NotStored,
+        Stored::NotStored,
+        Stored::Stored(1),
+        Stored::NotStored,
+        Stored::Stored(2),
+        Stored::Stored(3),
+        Stored::TooLarge,
+    ];
+    assert_eq!(rt; answers, wanted);
+    assert!(rt; finds(&mut core, rt.alloc(), b"wxyz")?);
     Ok(())
 }
 
@@ -129,58 +166,85 @@ fn head_at(
     }
 }
 
-// The head of the first item, of three bytes.
+// The head of the first item, of one byte.
 fn head(left: i64, before: bool, idle: u64) -> Head {
     Head {
         flags: 5,
         cas: 1,
-        size: 3,
+        size: 1,
         left,
         before,
         idle,
     }
 }
 
-#[test]
-fn looks_without_the_value(rt: HostRuntime) -> Result<(), Fail> {
-    let alloc = rt.alloc();
-    let mut core = open_counted(alloc)?;
-    let set = put(alloc, Mode::Set, 0, b"xyz")?;
-    assert_eq!(rt; store(&mut core, alloc, &set)?, Stored::Stored(1));
-    let first = head_at(&mut core, alloc, 0, None)?;
-    assert_eq!(rt; first, Some(head(-1, false, 0)));
-    let renewed = head_at(&mut core, alloc, 10, Some(60))?;
-    assert_eq!(rt; renewed, Some(head(60, true, 10)));
-    let last = head_at(&mut core, alloc, 69, None)?;
-    assert_eq!(rt; last, Some(head(1, true, 59)));
-    assert_eq!(rt; head_at(&mut core, alloc, 70, None)?, None);
-    Ok(())
+// The answer to a store that asks for this CAS number.
+fn store_over(core: &mut Core<Counted>, alloc: Global, cas: u64) -> Result<Stored, AllocError>
+    requires { core.old.told ≡ None }
+    ensures { core.new.told ≡ None }
+{
+    let put = Put {
+        compare: Some(cas),
+        ..put(alloc, Mode::Set, 0, b"y")?
+    };
+    store(core, alloc, &put)
+}
+
+// The answers to stores that ask for CAS number 1, the second one after a plain store.
+fn answers_over(core: &mut Core<Counted>, alloc: Global) -> Result<[Stored; 4], AllocError>
+    requires { core.old.told ≡ None }
+    ensures { core.new.told ≡ None }
+{
+    Ok([
+        store_over(core, alloc, 1)?,
+        store_as(core, alloc, Mode::Set, b"x")?,
+        store_over(core, alloc, 1)?,
+        store_over(core, alloc, 1)?,
+    ])
 }
 
 #[test]
 fn compares_numbers(rt: HostRuntime) -> Result<(), Fail> {
-    let alloc = rt.alloc();
-    let mut core = open_counted(alloc)?;
-    let plain = put(alloc, Mode::Set, 0, b"x")?;
-    let first = Put {
-        compare: Some(1),
-        ..put(alloc, Mode::Set, 0, b"y")?
-    };
-    assert_eq!(rt; store(&mut core, alloc, &first)?, Stored::NotFound);
-    assert_eq!(rt; store(&mut core, alloc, &plain)?, Stored::Stored(1));
-    assert_eq!(rt; store(&mut core, alloc, &first)?, Stored::Stored(2));
-    assert_eq!(rt; store(&mut core, alloc, &first)?, Stored::Exists);
+    let mut core = open_counted(rt.alloc())?;
+    let answers = answers_over(&mut core, rt.alloc())?;
+    let wanted = [
+        Stored::NotFound,
+        Stored::Stored(1),
+        Stored::Stored(2),
+        Stored::Exists,
+    ];
+    assert_eq!(rt; answers, wanted);
     Ok(())
 }
 
 // Whether an item of this exptime, stored at a moment, is found at a later one.
 fn lives(alloc: Global, exptime: i64, stored: u64, looked: u64) -> Result<bool, AllocError> {
     let mut core = open_counted(alloc)?;
+    lives_in(&mut core, alloc, exptime, stored, looked)
+}
+
+fn lives_in(
+    core: &mut Core<Counted>,
+    alloc: Global,
+    exptime: i64,
+    stored: u64,
+    looked: u64,
+) -> Result<bool, AllocError>
+    requires { core.old.told ≡ None }
+    ensures { core.new.told ≡ None }
+{
     core.clock(stored)?;
-    core.store(alloc, id(1), &put(alloc, Mode::Set, exptime, b"x")?)?;
+    store_until(core, alloc, exptime)?;
     core.clock(looked)?;
-    let found = core.look(alloc, id(1), &key(b"a")?, LOOK)?;
-    Ok(value_of(&found).is_some())
+    finds(core, alloc, b"x")
+}
+
+fn store_until(core: &mut Core<Counted>, alloc: Global, exptime: i64) -> Result<Stored, AllocError>
+    requires { core.old.told ≡ None }
+    ensures { core.new.told ≡ None }
+{
+    let put = put(alloc, Mode::Set, exptime, b"x")?;
+    store(core, alloc, &put)
 }
 
 #[test]
@@ -205,6 +269,34 @@ fn expires_at_the_deadline(rt: HostRuntime) -> Result<(), Fail> {
     Ok(())
 }
 
+// The heads that lookups find at four moments, the second one renewing the deadline.
+fn heads_over_time(core: &mut Core<Counted>, alloc: Global) -> Result<[Option<Head>; 4], AllocError>
+    requires { core.old.told ≡ None }
+    ensures { core.new.told ≡ None }
+{
+    store_until(core, alloc, 0)?;
+    Ok([
+        head_at(core, alloc, 0, None)?,
+        head_at(core, alloc, 10, Some(60))?,
+        head_at(core, alloc, 69, None)?,
+        head_at(core, alloc, 70, None)?,
+    ])
+}
+
+#[test]
+fn looks_without_the_value(rt: HostRuntime) -> Result<(), Fail> {
+    let mut core = open_counted(rt.alloc())?;
+    let heads = heads_over_time(&mut core, rt.alloc())?;
+    let wanted = [
+        Some(head(-1, false, 0)),
+        Some(head(60, true, 10)),
+        Some(head(1, true, 59)),
+        None,
+    ];
+    assert_eq!(rt; heads, wanted);
+    Ok(())
+}
+
 #[test]
 fn clock_never_falls(rt: HostRuntime) -> Result<(), Fail> {
     let mut core = open_counted(rt.alloc())?;
@@ -223,19 +315,43 @@ fn clock_never_falls(rt: HostRuntime) -> Result<(), Fail> {
     Ok(())
 }
 
+// Stores one value.
+fn note_a_store(core: &mut Core<Kept>, alloc: Global) -> Result<Stored, AllocError>
+    requires { core.old.told ≡ Some [] }
+{
+    let put = put(alloc, Mode::Set, 0, b"x")?;
+    core.store(alloc, id(1), &put)
+}
+
+// Looks a value up, and tells whether it is found.
+fn note_a_lookup(core: &mut Core<Kept>, alloc: Global) -> Result<bool, AllocError>
+    requires { core.old.told ≡ Some [] }
+{
+    let name = key(b"a")?;
+    let found = core.look(alloc, id(1), &name, LOOK)?;
+    Ok(value_of(&found).is_some())
+}
+
 #[test]
-fn keeps_its_journal(rt: HostRuntime) -> Result<(), Fail> {
-    let alloc = rt.alloc();
-    let mut stored = open_kept(alloc)?;
-    let set = put(alloc, Mode::Set, 0, b"x")?;
-    assert_eq!(rt; stored.store(alloc, id(1), &set)?, Stored::Stored(1));
-    assert_eq!(rt; stored.journal().entries().len(), 1);
-    let mut looked = open_kept(alloc)?;
-    let found = looked.look(alloc, id(1), &key(b"a")?, LOOK)?;
-    assert_eq!(rt; value_of(&found), None);
-    assert_eq!(rt; looked.into_journal().entries().len(), 1);
-    let mut clocked = open_kept(alloc)?;
-    assert!(rt; clocked.clock(7)?);
-    assert_eq!(rt; clocked.journal().entries().len(), 1);
+fn keeps_its_store(rt: HostRuntime) -> Result<(), Fail> {
+    let mut core = open_kept(rt.alloc())?;
+    assert_eq!(rt; note_a_store(&mut core, rt.alloc())?, Stored::Stored(1));
+    assert_eq!(rt; core.journal().entries().len(), 1);
+    Ok(())
+}
+
+#[test]
+fn keeps_its_lookup(rt: HostRuntime) -> Result<(), Fail> {
+    let mut core = open_kept(rt.alloc())?;
+    assert!(rt; !note_a_lookup(&mut core, rt.alloc())?);
+    assert_eq!(rt; core.into_journal().entries().len(), 1);
+    Ok(())
+}
+
+#[test]
+fn keeps_its_clock(rt: HostRuntime) -> Result<(), Fail> {
+    let mut core = open_kept(rt.alloc())?;
+    assert!(rt; core.clock(7)?);
+    assert_eq!(rt; core.journal().entries().len(), 1);
     Ok(())
 }

@@ -7,3 +7,4 @@ pub mod Printed
 pub mod SeatLists
 pub mod Seating
 pub mod StepGoesOn
+pub mod Upkept

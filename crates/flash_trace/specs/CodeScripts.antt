@@ -11,13 +11,14 @@ use Rattle.flash_trace.specs.declared.script.Script as code_script
 use Rattle.flash_trace.specs.declared.script.NotRead.{NotRead}
 use Rattle.flash_trace.specs.declared.script.NotRead.TheVariants.{Fault, NoMemory}
 use Rattle.flash_trace.specs.Scripts.{Script, step_of}
-use Rattle.flash_trace.specs.Steps.{Step, Clock, Say, Run}
+use Rattle.flash_trace.specs.Steps.{Step, Clock, Say, Run, Keep}
 
 -- what the code's step means: a `Say` names the bytes of the script from its first place up to its last
 abbrev pub step_meant : List ℕ → code_step.Step → Step
 step_meant bytes (code.Clock reading) = Clock reading
 step_meant bytes (code.Say session first last) = Say session.number (slice_range bytes first last)
 step_meant bytes (code.Run session) = Run session.number
+step_meant bytes (code.Keep upkeep) = Keep upkeep
 
 -- what the code's script means
 abbrev pub script_meant : List ℕ → code_script.Script → Script
@@ -38,6 +39,7 @@ abbrev pub IsWithin : ℕ → code_step.Step → Type 0
 IsWithin size (code.Clock reading) = Unit {0}
 IsWithin size (code.Say session first last) = IsRange first last size
 IsWithin size (code.Run session) = Unit {0}
+IsWithin size (code.Keep upkeep) = Unit {0}
 
 -- the same of steps
 abbrev pub AreWithin : ℕ → List code_step.Step → Type 0

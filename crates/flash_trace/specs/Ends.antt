@@ -1,9 +1,10 @@
 -- How a trace ends, by what its source, its sink and its device tell before it and after it.
-use Rattle.std.specs.Prelude.{◌≡◌, ◌⊎◌, ℕ, ◌<◌, ◌≤◌, Bool, true, false, List, ◌++◌, length, Option, None, Some}
+use Rattle.std.specs.Prelude.{◌≡◌, ◌⊎◌, Bool, true, false, List, ℕ, Option, None, Some}
 use Rattle.flash_names.specs.declared.geometry.Geometry.{Geometry}
 use Rattle.flash_names.specs.Source.{IsAtEnd}
 use Rattle.flash_names.specs.Faults.{Rose}
-use Rattle.flash_names.specs.Told.{with_front, with_more}
+use Rattle.flash_streams.specs.Reading.{HasRead}
+use Rattle.flash_streams.specs.Writing.{IsWritten, IsBegun}
 use Rattle.flash_device.specs.declared.shape.Shape.{Shape}
 use Rattle.flash_device.specs.Calls.{Called}
 use Rattle.flash_trace.specs.declared.fault.ScriptFault.{ScriptFault}
@@ -14,23 +15,6 @@ use Rattle.flash_trace.specs.Outside.{SourceChange, SinkChange, DeviceChange}
 use Rattle.flash_trace.specs.Output.{output, fault_text, text_of}
 use Rattle.flash_trace.specs.Scripts.{Script, fault_of, script_of}
 use Rattle.flash_trace.specs.declared.script.TheConstants.{MAX_BYTES}
-
--- these bytes were read: all that there are, or more than a script may have, but by 65,536 at most
-pub record HasRead (bytes : List ℕ) (left left_after : Option (List ℕ)) : Type 0 where
-  pub taken : left ≡ with_front bytes left_after
-  pub whole : IsAtEnd left_after ⊎ (MAX_BYTES < length bytes)
-  pub bounded : length bytes ≤ 16842752
-
--- these bytes were written, and none after them
-abbrev pub IsWritten : List ℕ → Option (List ℕ) → Option (List ℕ) → Type 0
-IsWritten bytes held held_after = held_after ≡ with_more bytes held
-
--- a front part of them was written
-pub record IsBegun (bytes : List ℕ) (held held_after : Option (List ℕ)) : Type 0 where
-  pub front : List ℕ
-  pub rest : List ℕ
-  pub parts : bytes ≡ front ++ rest
-  pub written : IsWritten front held held_after
 
 -- what a script's device is prepared for
 abbrev pub shape_of : Geometry → Shape
@@ -59,7 +43,7 @@ EndsOf bytes journal sink device statuses.SourceFault = ⊥
 -- what was read, and whether the journal is wanted
 pub record IsRead (wanted : Option Bool) (source : SourceChange) : Type 0 where
   pub bytes : List ℕ
-  pub read : HasRead bytes source.left source.left_after
+  pub read : HasRead MAX_BYTES bytes source.left source.left_after
   pub journal : Bool
   pub words : wanted ≡ Some journal
 

@@ -1,5 +1,5 @@
 -- What a script does: its steps, one after the other, over plain lists.
-use Rattle.std.specs.Prelude.{ℕ, ◌+◌, ◌-◌, Bool, true, false, List, [], ◌∷◌, ◌++◌, Option, None, Some, codes, decimal, replicate, slice_get, slice_set, if◌then◌else◌}
+use Rattle.std.specs.Prelude.{ℕ, ◌+◌, ◌-◌, Bool, true, false, List, [], ◌∷◌, ◌++◌, Option, None, Some, codes, decimal, is_some, replicate, slice_get, slice_set, if◌then◌else◌}
 use Rattle.flash_names.specs.declared.geometry.Geometry.{Geometry}
 use Rattle.flash_entry.specs.declared.entry.Entry.{Entry}
 use Rattle.flash_entry.specs.declared.found.LookAnswer.{LookAnswer}
@@ -8,13 +8,15 @@ use Rattle.flash_entry.specs.declared.found.Told.TheVariants as told
 use Rattle.flash_machine.specs.Cache.{Cache, first_cache}
 use Rattle.flash_core.specs.declared.found.Found.{Found}
 use Rattle.flash_core.specs.declared.found.Found.TheVariants as found
-use Rattle.flash_core.specs.Store.{Desk, Call}
-use Rattle.flash_core.specs.Calls.{clock_call, store_call, look_call}
+use Rattle.flash_core.specs.Store.{Desk, Call, first_desk}
+use Rattle.flash_core.specs.Calls.{clock_call, store_call, look_call, room_call, reap_call, juggle_call}
 use Rattle.flash_trace.specs.declared.command.Command.{Command}
 use Rattle.flash_trace.specs.declared.command.Command.TheVariants.{Get, Store, Refused}
 use Rattle.flash_trace.specs.Commands.{Reader, InLine, is_at_end, read_from}
 use Rattle.flash_trace.specs.Replies.{step_text, plain_text}
-use Rattle.flash_trace.specs.Steps.{Step, Clock, Say, Run}
+use Rattle.flash_trace.specs.declared.step.Upkeep.{Upkeep}
+use Rattle.flash_trace.specs.declared.step.Upkeep.TheVariants.{Room, Reap, Juggle}
+use Rattle.flash_trace.specs.Steps.{Step, Clock, Say, Run, Keep}
 
 -- a session: where its reader is, the commands that it has read and not done, the number of its last step,
 -- what it was answered, and whether it is closed: a turn of it has met the end of its bytes
@@ -44,7 +46,7 @@ new_seat = record { reader = InLine []; waiting = []; last = 0; replies = []; cl
 abbrev pub first_play : Play
 first_play =
     record {
-      kept = record { journal = []; cache = first_cache; desk = record { hot = [] } };
+      kept = record { journal = []; cache = first_cache; desk = first_desk };
       printed = [];
       seats = replicate 16 None;
     }
@@ -128,17 +130,35 @@ run g play session =
     let after = act_all g session (play.kept, record seat { waiting = [] }) seat.waiting in
     with_seat (record play { kept = after.0 }) session (seat_after_run after.1)
 
--- a reading of the clock: where the moment doesn't rise, a line is printed
-abbrev pub clock : Play → ℕ → ℕ → Play
-clock play line reading =
-    let call = clock_call play.kept.cache play.kept.desk reading in
+-- a call of the store that no session makes: where it did nothing, a line is printed
+abbrev pub called : Play → ℕ → Call Bool → Play
+called play line call =
     with_line_unless call.answer (record play { kept = after_call play.kept call }) (codes "idle") line
+
+-- a reading of the clock: it does nothing where the moment doesn't rise
+abbrev pub clock : Play → ℕ → ℕ → Play
+clock play line reading = called play line (clock_call play.kept.cache play.kept.desk reading)
+
+-- a call that may drop an item, by whether it did
+abbrev pub did : Call (Option (List ℕ)) → Call Bool
+did call = record { entries = call.entries; cache = call.cache; desk = call.desk; answer = is_some call.answer }
+
+-- what keeps a store within its memory
+abbrev pub upkeep_call : Geometry → Cache → Desk → Upkeep → Call Bool
+upkeep_call g c desk Room = did (room_call g c desk)
+upkeep_call g c desk Reap = did (reap_call c desk)
+upkeep_call g c desk Juggle = juggle_call g c desk
+
+-- upkeep of the store
+abbrev pub upkeep : Geometry → Play → ℕ → Upkeep → Play
+upkeep g play line kind = called play line (upkeep_call g play.kept.cache play.kept.desk kind)
 
 -- one step, which is on this line
 abbrev pub play_step : Geometry → Play → ℕ → Step → Play
 play_step g play line (Clock reading) = clock play line reading
 play_step g play line (Say session bytes) = say g play line session bytes
 play_step g play line (Run session) = run g play session
+play_step g play line (Keep kind) = upkeep g play line kind
 
 -- the steps from this line on
 abbrev pub play_from : Geometry → Play → ℕ → List Step → Play

@@ -5,16 +5,22 @@ use Rattle.std.specs.Option.{option_flatten}
 use Rattle.flash_names.specs.declared.geometry.Geometry.{Geometry}
 use Rattle.flash_trace.specs.Answers.{bytes_before_last_run, moment_after}
 use Rattle.flash_trace.specs.Commands.{commands_of, is_at_end}
-use Rattle.flash_trace.specs.Playing.{play_of}
-use Rattle.flash_trace.specs.Steps.{Step, Clock, Say, Run, IsSession, AreSeated}
+use Rattle.flash_trace.specs.Playing.{Play, play_of, upkeep_call}
+use Rattle.flash_trace.specs.declared.step.Upkeep.{Upkeep}
+use Rattle.flash_trace.specs.Steps.{Step, Clock, Say, Run, Keep, IsSession, AreSeated}
 use Rattle.flash_machine.specs.Moments.{last_moment}
 
 -- a printed line: a word, and the number of the script's line
 abbrev pub printed_line : List ℕ → ℕ → List ℕ
 printed_line word line = word ++ (32 ∷ decimal line ++ 10 ∷ [])
 
--- What a step after these steps prints: a reading of the clock `idle` where it isn't above the readings before, and
--- bytes for a session `closed` where the bytes before its last run end it; a run prints nothing
+-- whether upkeep of the store would do something
+abbrev pub upkeep_does : Geometry → Play → Upkeep → Bool
+upkeep_does g play kind = (upkeep_call g play.kept.cache play.kept.desk kind).answer
+
+-- What a step after these steps prints: a reading of the clock `idle` where it isn't above the readings before,
+-- bytes for a session `closed` where the bytes before its last run end it, and upkeep `idle` where the store that the
+-- steps before make has nothing for it to do; a run prints nothing
 abbrev pub step_prints : Geometry → List Step → ℕ → Step → List ℕ
 step_prints g before line (Clock reading) =
     if nat_lt (moment_after 0 before) (min reading last_moment) then [] else printed_line (codes "idle") line
@@ -23,6 +29,8 @@ step_prints g before line (Say session bytes) =
     then printed_line (codes "closed") line
     else []
 step_prints g before line (Run session) = []
+step_prints g before line (Keep kind) =
+    if upkeep_does g (play_of g before) kind then [] else printed_line (codes "idle") line
 
 -- what these steps print, of which the first has this line and the given steps before it
 abbrev pub steps_print : Geometry → List Step → ℕ → List Step → List ℕ
@@ -35,6 +43,7 @@ abbrev pub names : ℕ → Step → Bool
 names session (Clock reading) = false
 names session (Say other bytes) = nat_eq other session
 names session (Run other) = nat_eq other session
+names session (Keep kind) = false
 
 -- the steps of a script print so, and make the sessions that they name, and no others
 pub record IsPrinted (g : Geometry) (steps : List Step) : Type 0 where

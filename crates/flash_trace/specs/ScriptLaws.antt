@@ -4,7 +4,8 @@ use Rattle.std.specs.List.{AllByRecursion}
 use Rattle.flash_trace.specs.declared.fault.Why.{Why}
 use Rattle.flash_trace.specs.declared.fault.Why.TheVariants.{Short, TooLong}
 use Rattle.flash_trace.specs.Steps.{AreSeated}
-use Rattle.flash_trace.specs.Scripts.{Script, Lines, lines_of, geometry_of, step_of, script_of, fault_of}
+use Rattle.flash_streams.specs.Lines.{Lines, lines_of}
+use Rattle.flash_trace.specs.Scripts.{Script, geometry_of, step_of, script_of, fault_of}
 use Rattle.flash_trace.specs.declared.script.TheConstants.{MAX_BYTES, MAX_STEPS}
 
 -- bytes are read as a script exactly where no line of theirs is bad

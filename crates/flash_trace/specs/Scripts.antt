@@ -6,6 +6,7 @@ use Rattle.std.specs.Str.{bytes_eq}
 use Rattle.flash_names.specs.declared.geometry.Geometry.{Geometry}
 use Rattle.flash_names.specs.Numbers.{number_of}
 use Rattle.flash_names.specs.Words.{words}
+use Rattle.flash_streams.specs.Lines.{Lines, lines_of}
 use Rattle.flash_entry.specs.declared.geometry_line.HeadFault.{HeadFault}
 use Rattle.flash_entry.specs.declared.geometry_line.HeadFault.TheVariants as line_faults
 use Rattle.flash_entry.specs.GeometryLine.{geometry_of_line}
@@ -15,7 +16,8 @@ use Rattle.flash_trace.specs.declared.fault.Why.TheVariants as reasons
 use Rattle.flash_trace.specs.declared.fault.ScriptFault.{ScriptFault}
 use Rattle.flash_trace.specs.declared.script.StepWord.{StepWord}
 use Rattle.flash_trace.specs.declared.script.StepWord.TheVariants as begins
-use Rattle.flash_trace.specs.Steps.{Step, Clock, Say, Run}
+use Rattle.flash_trace.specs.declared.step.Upkeep.TheVariants as upkeeps
+use Rattle.flash_trace.specs.Steps.{Step, Clock, Say, Run, Keep}
 use Rattle.flash_trace.specs.declared.script.TheConstants.{MAX_BYTES, MAX_STEPS}
 
 -- a script that has no bad line: the geometry of its first line, that line with its line feed, and its steps
@@ -23,25 +25,6 @@ pub record Script : Type 0 where
   pub geometry : Geometry
   pub first_line : List ℕ
   pub steps : List Step
-
--- bytes by their lines: those that a line feed ends, without it, and what is after the last one
-pub record Lines : Type 0 where
-  pub whole : List (List ℕ)
-  pub rest : List ℕ
-
--- a byte before the first line
-abbrev pub in_first_line : ℕ → Lines → Lines
-in_first_line b lines = elim lines.whole [
-  | [] ↦ record { whole = []; rest = b ∷ lines.rest }
-  | line ∷ more ↦ record { whole = (b ∷ line) ∷ more; rest = lines.rest }
-]
-
--- the lines of bytes
-abbrev pub lines_of : List ℕ → Lines
-lines_of [] = record { whole = []; rest = [] }
-lines_of (b ∷ bytes) =
-    let lines = lines_of bytes in if b == 10 then record { whole = [] ∷ lines.whole; rest = lines.rest }
-    else in_first_line b lines
 
 -- what is after the first space, where there is one
 abbrev pub behind_word : List ℕ → List ℕ
@@ -52,21 +35,30 @@ behind_word (b ∷ bytes) = if b == 32 then bytes else behind_word bytes
 abbrev pub session_of : List ℕ → Option ℕ
 session_of word = option_and_then (λ n. if nat_le 1 n && nat_le n 16 then Some n else None) (number_of word)
 
+-- the words of the steps that keep a store within its memory
+abbrev pub upkeep_word : List ℕ → Option StepWord
+upkeep_word word =
+    if bytes_eq word (codes "room") then Some (begins.Keep upkeeps.Room)
+    else if bytes_eq word (codes "reap") then Some (begins.Keep upkeeps.Reap)
+    else if bytes_eq word (codes "juggle") then Some (begins.Keep upkeeps.Juggle)
+    else None
+
 -- the words that a step's line may begin with
 abbrev pub step_word : List ℕ → Option StepWord
 step_word word =
     if bytes_eq word (codes "clock") then Some begins.Clock
     else if bytes_eq word (codes "say") then Some begins.Say
     else if bytes_eq word (codes "run") then Some begins.Run
-    else None
+    else upkeep_word word
 
 -- the step of a line that begins with this word, has these words after it, and this text after its second space:
--- `clock <n>`, `run <s>`, or `say <s> <text>`, whose text may have spaces or be empty
+-- `clock <n>`, `run <s>`, or `say <s> <text>`, whose text may have spaces or be empty, or `room`, `reap` or `juggle`
 abbrev pub step_of_word : StepWord → List (List ℕ) → List ℕ → Result Step Why
 step_of_word begins.Clock (number ∷ []) text = ok_or (option_map Clock (number_of number)) BadNumber
 step_of_word begins.Run (number ∷ []) text = ok_or (option_map Run (session_of number)) BadNumber
 step_of_word begins.Say (number ∷ word ∷ more) text =
     ok_or (option_map (λ session. Say session text) (session_of number)) BadNumber
+step_of_word (begins.Keep upkeep) [] text = Ok (Keep upkeep)
 step_of_word _ _ _ = Err BadWord
 
 -- the step of a line of these words, with this text after its second space

@@ -1,9 +1,16 @@
-// Laws over every script. Each function has no body: its contract is the law.
+// Laws over every script. Each function's contract is the law; its body calls the laws of the store that the law rests
+// on, or is empty, and does nothing.
 ghost use Rattle.flash_trace.specs.Answers.{EveryPlayIsRight};
 ghost use Rattle.flash_trace.specs.Ends.{EveryTraceIsRight};
 ghost use Rattle.flash_trace.specs.Fronts.{EachFrontMakesAFront};
 ghost use Rattle.flash_trace.specs.Printing.{EveryPlayIsPrinted};
 ghost use Rattle.flash_trace.specs.ScriptLaws.{AreReadOrBad, IsReadByLines, IsFirstBadLine, IsBadFirstLine, IsShortLine, IsShortFirstLine, HasTooManyBytes, HasSeats};
+
+use flash_core::{
+    each_clock_goes_on, each_juggling_goes_on, each_lookup_goes_on, each_reaping_goes_on,
+    each_room_goes_on, each_store_goes_on,
+};
+use flash_index::no_items_are_listed;
 
 /// Bytes are read as a script, and in one way, exactly where no line of theirs is bad.
 pub fn each_script_is_read_or_bad()
@@ -36,13 +43,29 @@ pub fn each_session_has_a_seat()
 /// and the journal say.
 pub fn every_play_is_right()
     ensures { EveryPlayIsRight }
-{}
+{
+    each_store_goes_on();
+    each_lookup_goes_on();
+    each_clock_goes_on();
+    each_room_goes_on();
+    each_reaping_goes_on();
+    each_juggling_goes_on();
+    no_items_are_listed();
+}
 
 /// Each step of a script prints the line that the script's text says, and none else, and the sessions that are made are
 /// those that a step names.
 pub fn every_play_is_printed()
     ensures { EveryPlayIsPrinted }
-{}
+{
+    each_store_goes_on();
+    each_lookup_goes_on();
+    each_clock_goes_on();
+    each_room_goes_on();
+    each_reaping_goes_on();
+    each_juggling_goes_on();
+    no_items_are_listed();
+}
 
 /// The steps before a script make a journal that the whole script's goes on from: what a turn did is not changed
 /// by what comes after it.
@@ -53,4 +76,6 @@ pub fn each_front_makes_a_front()
 /// Every script without a bad line makes such a run.
 pub fn every_trace_is_right()
     ensures { EveryTraceIsRight }
-{}
+{
+    every_play_is_right();
+}

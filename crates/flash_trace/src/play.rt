@@ -1,11 +1,12 @@
 ghost use Rattle.std.specs.Prelude.{◌≡◌, ◌-◌, not, [], ◌∷◌, ◌++◌, None, Some, decimal, length, replicate, slice_get, slice_set, if◌then◌else◌, IfOk, OnOk, IsTrue, is_some};
 ghost use Rattle.std.specs.Option.{ForSome, option_map};
-ghost use Rattle.flash_trace.specs.Playing.{StoreState, seat_after_run, clock, seat_with_input, seat_or_new, play_step, run, say};
+ghost use Rattle.flash_core.specs.Store.{Becomes};
+ghost use Rattle.flash_trace.specs.Playing.{StoreState, seat_after_run, clock, upkeep, upkeep_call, seat_with_input, seat_or_new, play_step, run, say};
 ghost use Rattle.flash_trace.specs.CodeScripts.{step_meant, IsWithin};
 ghost use Rattle.flash_trace.specs.Seats.{seat_of, seats_of, play_state, state_of, AreSeats, TraceGoesOn, TakesUpTo};
 
 use crate::session::Session;
-use crate::step::{MAX_SESSIONS, SessionNumber, Step};
+use crate::step::{MAX_SESSIONS, SessionNumber, Step, Upkeep};
 use flash_core::Core;
 use flash_entry::Journal;
 use flash_names::Geometry;
@@ -101,6 +102,7 @@ impl Play {
                 self.say(alloc, &core.geometry(), session, input, line)
             }
             Step::Run(session) => self.run(alloc, core, session),
+            Step::Keep(kind) => self.upkeep(core, kind, line),
         }
     }
 
@@ -119,6 +121,24 @@ impl Play {
     {
         let rose = core.clock(reading)?;
         self.print_unless(rose, b"idle", line)
+    }
+
+    // Keeps the store within its memory. Where there is nothing to do, a line is printed.
+    fn upkeep<J: Journal>(
+        &mut self,
+        core: &mut Core<J>,
+        kind: Upkeep,
+        line: u64,
+    ) -> Result<(), AllocError>
+        requires tells { IsTrue (is_some core.old.told) }
+        ensures done { OnOk result (state_of core.new self.new
+            ≡ upkeep core.old.geometry (state_of core.old self.old) line kind) }
+        ensures seats { OnOk result (self.new.seats.items ≡ self.old.seats.items) }
+        ensures tells { OnOk result (IsTrue (is_some core.new.told)) }
+        ensures geometry { OnOk result (core.new.geometry ≡ core.old.geometry) }
+    {
+        let done = do_upkeep(core, kind)?;
+        self.print_unless(done, b"idle", line)
     }
 
     // Gives the session these bytes and a line end. One that is closed takes nothing, and a line is printed.
@@ -198,6 +218,20 @@ impl Play {
         self.printed
             .extend_from_slice(Buffer::new().format(line).as_bytes())?;
         self.printed.extend_from_slice(b"\n")
+    }
+}
+
+// Does it, and answers whether there was something to do.
+fn do_upkeep<J: Journal>(core: &mut Core<J>, kind: Upkeep) -> Result<bool, AllocError>
+    ensures done { OnOk result (Becomes core.old
+        (upkeep_call core.old.geometry core.old.cache core.old.desk kind) core.new) }
+    ensures answer { IfOk result (λ done. done
+        ≡ (upkeep_call core.old.geometry core.old.cache core.old.desk kind).answer) }
+{
+    match kind {
+        Upkeep::Room => Ok(core.make_room()?.is_some()),
+        Upkeep::Reap => Ok(core.reap_one()?.is_some()),
+        Upkeep::Juggle => Ok(core.juggle_one()),
     }
 }
 

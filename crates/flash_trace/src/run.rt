@@ -1,9 +1,6 @@
-ghost use Rattle.std.specs.Prelude.{◌≡◌, ◌↔◌, ◌<◌, ◌≤◌, ◌+◌, ℕ, List, Option, true, false, Some, None, length, map, IfOk, IfErr, OnOk, OnErr, IsTrue, is_some};
-ghost use Rattle.flash_names.specs.Faults.{Rose, Counts};
-ghost use Rattle.flash_names.specs.Source.{IsAtEnd};
-ghost use Rattle.flash_names.specs.Told.{with_front};
+ghost use Rattle.std.specs.Prelude.{◌≡◌, ◌↔◌, ◌≤◌, true, Some, None, length, map, IfOk, OnOk, IsTrue, is_some};
 ghost use Rattle.flash_trace.specs.CommandLine.{journal_wanted};
-ghost use Rattle.flash_trace.specs.Ends.{EndsOf, IsAsked, IsWritten, IsBegun, IsTraced, HasRead, writes_nothing};
+ghost use Rattle.flash_trace.specs.Ends.{EndsOf, IsAsked, IsTraced, writes_nothing};
 ghost use Rattle.flash_trace.specs.Outside.{source_change, sink_change, device_change};
 ghost use Rattle.flash_trace.specs.Output.{output};
 ghost use Rattle.flash_trace.specs.Playing.{play_from};
@@ -20,11 +17,9 @@ use crate::step::Step;
 use flash_core::Core;
 use flash_device::{Device, PrepareError};
 use flash_entry::Kept;
-use flash_names::{Blob, Sink, SinkFault, Source, SourceFault};
+use flash_names::{Blob, Sink, SinkFault, Source};
+use flash_streams::{ReadError, read_all, write_all};
 use std::alloc::{AllocError, Global};
-
-// How many bytes a read of the source asks for.
-const PIECE: usize = 65_536;
 
 /// Reads a script, runs it over a store, and writes what it printed and answered. The words after the program's
 /// name are `trace` or `trace --journal`, which writes the journal too; any other is a usage fault, and then
@@ -50,7 +45,7 @@ pub fn run_trace<S: Source, K: Sink, D: Device>(
     let Some(with_journal) = read_trace_words(words) else {
         return Status::Usage;
     };
-    match read_all(alloc, source) {
+    match read_all(alloc, MAX_BYTES, source) {
         Ok(bytes) => run_bytes(alloc, with_journal, &bytes, sink, device),
         Err(ReadError::Fault) => Status::SourceFault,
         Err(ReadError::NoMemory) => Status::NoMemory,
@@ -68,64 +63,6 @@ fn read_trace_words(words: &[Blob]) -> Option<bool>
             { Some(true) }
         _ => None,
     }
-}
-
-// Why a source wasn't read.
-#[derive(Clone, Copy)]
-enum ReadError {
-    Fault,
-    NoMemory,
-}
-
-// The bytes of a source, to its end, or until more than a script may have were read.
-fn read_all<S: Source>(alloc: Global, source: &mut S) -> Result<Vec<u8>, ReadError>
-    ensures read { IfOk result (λ bytes. HasRead bytes.items (S.left source.old) (S.left source.new)) }
-    ensures cause { IfErr result (λ error. error ≡ ReadError.Fault → Rose (S.faults source.old) (S.faults source.new)) }
-{
-    let Ok(mut piece) = new_piece(alloc) else {
-        return Err(ReadError::NoMemory);
-    };
-    let mut bytes = Vec::new(alloc);
-    'reads: while bytes.len() <= MAX_BYTES {
-        if !read_piece(source, &mut piece, &mut bytes)? {
-            return Ok(bytes);
-        }
-    }
-    Ok(bytes)
-}
-
-// Appends what one read gives, and answers whether it gave something.
-fn read_piece<S: Source>(
-    source: &mut S,
-    piece: &mut [u8],
-    bytes: &mut Vec<u8>,
-) -> Result<bool, ReadError>
-    requires { 0 < length piece.old }
-    ensures taken { OnOk result ((first : Option (List ℕ)) → first ≡ with_front bytes.old.items (S.left source.old)
-        → first ≡ with_front bytes.new.items (S.left source.new)) }
-    ensures more { IfOk result (λ more. more ≡ true → length bytes.old.items < length bytes.new.items) }
-    ensures bound { OnOk result (length bytes.new.items ≤ length bytes.old.items + length piece.old) }
-    ensures end { IfOk result (λ more. more ≡ false → IsAtEnd (S.left source.new)) }
-    ensures room { length piece.new ≡ length piece.old }
-    ensures kept { S.faults source.old ≤ S.faults source.new }
-    ensures cause { IfErr result (λ error. error ≡ ReadError.Fault → Rose (S.faults source.old) (S.faults source.new)) }
-{
-    match source.read(piece) {
-        Err(SourceFault) => Err(ReadError::Fault),
-        Ok(0) => Ok(false),
-        Ok(n) => match bytes.extend_from_slice(&piece[..n]) {
-            Ok(()) => Ok(true),
-            Err(AllocError) => Err(ReadError::NoMemory),
-        },
-    }
-}
-
-// Room for what a read gives.
-fn new_piece(alloc: Global) -> Result<Vec<u8>, AllocError>
-    ensures some { IfOk result (λ piece. 0 < length piece.items) }
-    ensures bound { IfOk result (λ piece. length piece.items ≤ 65536) }
-{
-    Ok(vec![in alloc; 0u8; PIECE]?)
 }
 
 // Runs the script of these bytes, and writes its output.
@@ -234,21 +171,6 @@ fn play_steps(
     'steps: for step in steps {
         line += 1;
         play.step(alloc, core, bytes, *step, line)?;
-    }
-    Ok(())
-}
-
-fn write_all<K: Sink>(sink: &mut K, bytes: &[u8]) -> Result<(), SinkFault>
-    ensures written { OnOk result (IsWritten bytes.now (K.held sink.old) (K.held sink.new)) }
-    ensures begun { OnErr result (IsBegun bytes.now (K.held sink.old) (K.held sink.new)) }
-    ensures counts { Counts (K.faults sink.old) (K.faults sink.new) result }
-{
-    let mut done = 0;
-    'writes: while done < bytes.len() {
-        match sink.write(&bytes[done..]) {
-            Ok(n) => done += n,
-            Err(SinkFault) => return Err(SinkFault),
-        }
     }
     Ok(())
 }

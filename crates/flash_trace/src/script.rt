@@ -1,12 +1,14 @@
-ghost use Rattle.std.specs.Prelude.{◌≡◌, ◌-◌, ◌<◌, ◌≤◌, length, map, drop, option_map, slice_range, MatchResult, IfOk, IfErr};
+ghost use Rattle.std.specs.Result.{result_map_both};
+ghost use Rattle.std.specs.Prelude.{◌≡◌, ◌-◌, ◌<◌, ◌≤◌, ℕ, List, [], length, map, drop, option_map, slice_range, MatchResult, IfOk, IfErr};
 ghost use Rattle.flash_names.specs.Cut.{cut_at};
 ghost use Rattle.flash_trace.specs.declared.script.NotRead.TheVariants.{NoMemory};
 ghost use Rattle.flash_trace.specs.Steps.{AreSeated};
 ghost use Rattle.flash_trace.specs.CodeScripts.{first_fault, step_meant, script_meant, IsWithin, AreWithin, IsFault};
-ghost use Rattle.flash_trace.specs.Scripts.{why_of, session_of, step_word, step_of, fault_from, steps_of, lines_of, script_of, fault_of};
+ghost use Rattle.flash_streams.specs.Lines.{lines_of};
+ghost use Rattle.flash_trace.specs.Scripts.{why_of, session_of, step_word, upkeep_word, step_of_word, step_of, fault_from, steps_of, script_of, fault_of};
 
 use crate::fault::{ScriptFault, Why};
-use crate::step::{SessionNumber, Step};
+use crate::step::{SessionNumber, Step, Upkeep};
 use flash_entry::{HeadFault, read_head};
 use flash_names::{Geometry, cut_at_byte, read_number, split_word};
 use std::alloc::{AllocFailed, Global};
@@ -54,6 +56,8 @@ pub enum StepWord {
     Say,
     /// `run <session>`
     Run,
+    /// `room`, `reap` or `juggle`
+    Keep(Upkeep),
 }
 
 /// Reads a script, or finds its first bad line.
@@ -162,7 +166,7 @@ fn read_step(bytes: &[u8], start: usize, end: usize) -> Result<Step, Why>
         return Err(Why::BadWord);
     };
     let Some(rest) = rest else {
-        return Err(Why::BadWord);
+        return step_of_one_word(word);
     };
     let (number, input) = split_word(rest);
     match (word, input) {
@@ -178,6 +182,17 @@ fn read_step(bytes: &[u8], start: usize, end: usize) -> Result<Step, Why>
     }
 }
 
+// The step of a line that has only this word.
+fn step_of_one_word(word: StepWord) -> Result<Step, Why>
+    ensures read { (bytes : List ℕ) → result_map_both (step_meant bytes) (λ why. why) result ≡ step_of_word word [] [] }
+    ensures within { (size : ℕ) → IfOk result (IsWithin size) }
+{
+    match word {
+        StepWord::Keep(upkeep) => Ok(Step::Keep(upkeep)),
+        _ => Err(Why::BadWord),
+    }
+}
+
 fn step_word(word: &[u8]) -> Option<StepWord>
     ensures { result ≡ step_word word.now }
 {
@@ -187,6 +202,20 @@ fn step_word(word: &[u8]) -> Option<StepWord>
         Some(StepWord::Say)
     } else if word == b"run".as_slice() {
         Some(StepWord::Run)
+    } else {
+        upkeep_word(word)
+    }
+}
+
+fn upkeep_word(word: &[u8]) -> Option<StepWord>
+    ensures { result ≡ upkeep_word word.now }
+{
+    if word == b"room".as_slice() {
+        Some(StepWord::Keep(Upkeep::Room))
+    } else if word == b"reap".as_slice() {
+        Some(StepWord::Keep(Upkeep::Reap))
+    } else if word == b"juggle".as_slice() {
+        Some(StepWord::Keep(Upkeep::Juggle))
     } else {
         None
     }

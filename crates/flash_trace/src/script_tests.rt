@@ -1,6 +1,6 @@
 use crate::fault::{ScriptFault, Why};
 use crate::script::{MAX_BYTES, NotRead, Script, read_script};
-use crate::step::{SessionNumber, Step};
+use crate::step::{SessionNumber, Step, Upkeep};
 use std::alloc::{AllocError, Global};
 use std::test::Fail;
 
@@ -155,6 +155,7 @@ enum Meant<'a> {
     Clock(u64),
     Say(u32, &'a [u8]),
     Run(u32),
+    Keep(Upkeep),
 }
 
 fn step_meant<'a>(bytes: &'a [u8], step: Step) -> Meant<'a> {
@@ -165,6 +166,7 @@ fn step_meant<'a>(bytes: &'a [u8], step: Step) -> Meant<'a> {
             Meant::Say(session.number, input)
         }
         Step::Run(session) => Meant::Run(session.number),
+        Step::Keep(kind) => Meant::Keep(kind),
     }
 }
 
@@ -176,6 +178,7 @@ fn steps(rt: HostRuntime) -> Result<(), Fail> {
         ("clock 18446744073709551615\n", Meant::Clock(u64::MAX)),
         ("run 1\n", Meant::Run(1)),
         ("run 16\n", Meant::Run(16)),
+        ("reap\n", Meant::Keep(Upkeep::Reap)),
         ("run 00000000000000000016\n", Meant::Run(16)),
         ("say 1 \n", Meant::Say(1, b"".as_slice())),
         ("say 2  \n", Meant::Say(2, b" ".as_slice())),

@@ -39,6 +39,17 @@ impl SessionNumber {
     }
 }
 
+/// A step that keeps the store within its memory.
+#[derive(Clone, Copy, Debug, PartialEq, Eq)]
+pub enum Upkeep {
+    /// Drops the item that is to leave next, where the items take more than the memory.
+    Room,
+    /// Drops a dead item at the end of a segment.
+    Reap,
+    /// Moves a key between the segments.
+    Juggle,
+}
+
 /// One step of a script. A `say` names the range of the script that its bytes are in.
 #[derive(Clone, Copy, Debug, PartialEq, Eq)]
 pub enum Step {
@@ -48,4 +59,6 @@ pub enum Step {
     Say(SessionNumber, u32, u32),
     /// A turn of the session: it does the commands that it has read.
     Run(SessionNumber),
+    /// Upkeep of the store.
+    Keep(Upkeep),
 }

@@ -3,8 +3,9 @@ ghost use Rattle.std.specs.Option.{ForSome};
 ghost use Rattle.flash_items.specs.Item.{IsSmall};
 ghost use Rattle.flash_items.specs.ItemsState.{HasItem};
 
-use super::keys::{key_bytes, visited};
-use super::{Times, nanos_since};
+use super::Times;
+use crate::keys::{key_bytes, visited};
+use crate::timing::nanos_since;
 use flash_items::{Body, Item, Items};
 use flash_names::{ItemId, Key, Label, Place};
 use std::alloc::{AllocError, Global};

@@ -1,5 +1,6 @@
-use super::keys::{KEY_LEN, key_bytes, visited};
-use super::{Times, nanos_since};
+use super::Times;
+use crate::keys::{KEY_LEN, key_bytes, visited};
+use crate::timing::nanos_since;
 use std::collections::HashMap;
 use std::io;
 use std::time::Instant;

@@ -17,7 +17,8 @@ use Rattle.flash_entry.specs.declared.entry.Entry.TheVariants as entries
 use Rattle.flash_machine.specs.Cache.{Cache}
 use Rattle.flash_machine.specs.Looking.{residence_of}
 use Rattle.flash_core.specs.Store.{Desk, Call}
-use Rattle.flash_core.specs.Calls.{is_expired_at, sweep, store_call, look_call}
+use Rattle.flash_core.specs.Calls.{store_call, look_call}
+use Rattle.flash_core.specs.Sweeps.{is_expired_at, sweep}
 use Rattle.flash_trace.specs.Answers.{entry_ask}
 use Rattle.flash_core.proofs.News.{all_behind}
 

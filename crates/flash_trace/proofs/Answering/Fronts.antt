@@ -1,5 +1,5 @@
 -- The journal only grows.
-use Rattle.std.proofs.Common.{ℕ, ◌+◌, List, [], ◌∷◌, ◌++◌, refl, sym, ◌∙◌, ap, subst, append_assoc}
+use Rattle.std.proofs.Common.{ℕ, ◌+◌, Bool, List, [], ◌∷◌, ◌++◌, refl, sym, ◌∙◌, ap, subst, append_assoc}
 use Rattle.std.specs.Prelude.{codes}
 use Rattle.std.proofs.lemmas.Bool.{cond_both}
 use Rattle.std.proofs.lemmas.List.{append-nil}
@@ -9,9 +9,10 @@ use Rattle.flash_core.specs.Calls.{clock_call}
 use Rattle.flash_trace.specs.declared.command.Command.{Command}
 use Rattle.flash_trace.specs.declared.command.Command.TheVariants.{Get, Store, Refused}
 use Rattle.flash_trace.specs.Fronts.{GoesOnFrom, EachFrontMakesAFront}
-use Rattle.flash_trace.specs.Playing.{Seat, StoreState, Play, first_play, act, act_all, seat_after_input, play_from, play_step, seat_at, with_line, with_seat}
-use Rattle.flash_trace.specs.Steps.{Step, Clock, Say, Run}
-use Rattle.flash_trace.proofs.Playing.Seating.{kept_clock}
+use Rattle.flash_trace.specs.Playing.{Seat, StoreState, Play, first_play, act, act_all, seat_after_input, play_from, play_step, seat_at, with_line, with_seat, called, upkeep_call}
+use Rattle.flash_core.specs.Store.{Call}
+use Rattle.flash_trace.specs.Steps.{Step, Clock, Say, Run, Keep}
+use Rattle.flash_trace.proofs.Playing.Seating.{kept_called}
 
 same_front : (h : List Entry) → GoesOnFrom h h
 same_front h = record { more = []; parts = sym (append-nil h) }
@@ -34,10 +35,12 @@ module _ (g : Geometry) where
       let next = act g pass state command in
       further state.0.journal next.0.journal (act_all g pass next more).0.journal (act_goes_on pass state command) (act_all_goes_on pass next more)
 
+  call_goes_on : (p : Play) (line : ℕ) (call : Call Bool) → GoesOnFrom p.kept.journal (called p line call).kept.journal
+  call_goes_on p line call = subst (λ (k : StoreState). GoesOnFrom p.kept.journal k.journal) (sym (kept_called p line call)) (record { more = call.entries; parts = refl })
+
   step_goes_on : (p : Play) (line : ℕ) (step : Step) → GoesOnFrom p.kept.journal (play_step g p line step).kept.journal
-  step_goes_on p line (Clock reading) =
-      subst (λ (k : StoreState). GoesOnFrom p.kept.journal k.journal) (sym (kept_clock p line reading))
-      (record { more = (clock_call p.kept.cache p.kept.desk reading).entries; parts = refl })
+  step_goes_on p line (Clock reading) = call_goes_on p line (clock_call p.kept.cache p.kept.desk reading)
+  step_goes_on p line (Keep kind) = call_goes_on p line (upkeep_call g p.kept.cache p.kept.desk kind)
   step_goes_on p line (Say session bytes) =
       let seat = seat_at p session in
       cond_both seat.closed (with_line (with_seat p session seat) (codes "closed") line) (with_seat p session (seat_after_input g seat bytes)) (λ (q : Play). GoesOnFrom p.kept.journal q.kept.journal)

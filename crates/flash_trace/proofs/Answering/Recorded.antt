@@ -22,9 +22,11 @@ use Rattle.flash_machine.specs.Live.{live_item}
 use Rattle.flash_machine.specs.Looking.{head_of_item, residence_of}
 use Rattle.flash_machine.specs.Steps.{cache_from}
 use Rattle.flash_core.specs.Store.{Desk, Call}
-use Rattle.flash_core.specs.Calls.{is_expired_at, sweep, found_of, store_call, look_call}
+use Rattle.flash_core.specs.Calls.{found_of, store_call, look_call}
+use Rattle.flash_core.specs.Laws.{IsHere}
+use Rattle.flash_core.specs.Sweeps.{is_expired_at, sweep}
 use Rattle.flash_core.specs.declared.found.Found.TheVariants as found
-use Rattle.flash_core.proofs.Sweeps.{IsHere, sweeps}
+use Rattle.flash_core.proofs.Sweeps.{sweeps}
 use Rattle.flash_trace.specs.Answers.{same_id, found_outcome, outcome_from}
 use Rattle.flash_trace.specs.Playing.{outcome_of}
 use Rattle.flash_trace.proofs.Answering.AskedSteps.{AreOf, store_asked, look_asked}

@@ -1,26 +1,29 @@
 -- Every script's journal is a run, and each of its sessions is answered by it.
-use Rattle.std.proofs.Common.{◌≡◌, ◌≢◌, ℕ, ◌+◌, ◌-◌, ◌^◌, true, false, List, [], ◌∷◌, ◌++◌, length, if◌then◌else◌, refl, sym, ◌∙◌, ap, subst, arith, inl, inr, append_assoc}
+use Rattle.std.proofs.Common.{◌≡◌, ◌≢◌, ℕ, ◌+◌, ◌-◌, ◌^◌, Bool, true, false, List, [], ◌∷◌, ◌++◌, length, if◌then◌else◌, refl, sym, ◌∙◌, ap, subst, arith, inl, inr, append_assoc}
 use Rattle.std.specs.Prelude.{max, min, nat_eq, nat_lt, codes}
 use Rattle.std.proofs.lemmas.Bool.{cases_eq, cond_both}
 use Rattle.std.proofs.lemmas.Bool.Decides.{nat_tests}
 use Rattle.std.proofs.lemmas.List.{append-nil}
 use Rattle.flash_names.specs.declared.geometry.Geometry.{Geometry}
 use Rattle.flash_entry.specs.declared.ask.Ask.{Ask}
-use Rattle.flash_machine.specs.Cache.{Cache}
-use Rattle.flash_core.specs.Store.{Desk, Call}
+use Rattle.flash_machine.specs.Cache.{Cache, first_cache}
+use Rattle.flash_index.specs.Listed.{IsListed}
+use Rattle.flash_core.specs.Store.{Desk, Call, first_desk}
 use Rattle.flash_core.specs.Calls.{clock_call}
 use Rattle.flash_trace.specs.declared.command.Command.{Command}
 use Rattle.flash_trace.specs.Answers.{asks_of, bytes_for, bytes_before_last_run, bytes_to, is_run, moment_after, moment_with, IsRight, EveryPlayIsRight}
 use Rattle.flash_trace.specs.Commands.{commands_of, is_at_end}
-use Rattle.flash_trace.specs.Playing.{Seat, StoreState, Play, first_play, after_call, act_all, seat_at, with_seat, with_line, seat_after_input, say, seat_after_run, run, clock, play_step, play_from, play_of}
+use Rattle.flash_trace.specs.Playing.{Seat, StoreState, Play, first_play, after_call, act_all, seat_at, with_seat, with_line, seat_after_input, say, seat_after_run, run, called, upkeep_call, play_step, play_from, play_of}
+use Rattle.flash_trace.specs.declared.step.Upkeep.{Upkeep}
 use Rattle.flash_trace.specs.Seats.{IsNumbered}
-use Rattle.flash_trace.specs.Steps.{Step, Clock, Say, Run, IsSession, IsSeated, AreSeated}
-use Rattle.flash_trace.proofs.Answering.Acted.{IsKept, clock_kept, Serves, act_all_serves, act_all_serves_other, act_all_reader, act_all_waiting}
+use Rattle.flash_trace.specs.Steps.{Step, Clock, Say, Run, Keep, IsSession, IsSeated, AreSeated}
+use Rattle.flash_trace.proofs.Answering.Acted.{StoreLaws, IsKept, clock_kept, upkeep_kept, Serves, act_all_serves, act_all_serves_other, act_all_reader, act_all_waiting}
 use Rattle.flash_trace.proofs.Playing.InMemory.{first_here}
 use Rattle.flash_trace.proofs.Answering.BeforeLastRun.{turned_behind, turned_from_first}
-use Rattle.flash_trace.proofs.Playing.Moments.{act_all_moment, clock_moment}
+use Rattle.flash_trace.proofs.Playing.Moments.{act_all_moment, clock_moment, upkept_moment}
+use Rattle.flash_trace.proofs.Playing.Upkept.{upkeep_entries}
 use Rattle.flash_trace.proofs.Playing.NewNumbers.{step_numbered, first_numbered}
-use Rattle.flash_trace.proofs.Playing.Seating.{seat_is, seat_same, seat_other, kept_clock, seats_clock, step_seats, nobody}
+use Rattle.flash_trace.proofs.Playing.Seating.{seat_is, seat_same, seat_other, kept_called, seats_called, step_seats, nobody}
 use Rattle.flash_trace.proofs.Answering.Served.{KeepsTo, served_behind}
 use Rattle.flash_trace.proofs.Answering.UpTo.{IsUpTo, given_none, fed_up, closed_up, first_up, is_answered}
 
@@ -42,7 +45,7 @@ other_bytes session other bytes differ =
 own_bytes : (session : ℕ) (bytes : List ℕ) → bytes_for session (Say session bytes) ≡ bytes ++ 13 ∷ 10 ∷ []
 own_bytes session bytes = let yes : nat_eq session session ≡ true = grind (arith, nat_tests) in ap (λ b. if b then bytes ++ 13 ∷ 10 ∷ [] else []) yes
 
-module _ (g : Geometry) where
+module _ (laws : StoreLaws) (g : Geometry) where
   -- the sessions after one was put in its place
   each_with : (p p2 : Play) (session : ℕ) (seat : Seat) (given turned : ℕ → List ℕ) → length p.seats ≡ 16 → IsSession session → p2.seats ≡ (with_seat p session seat).seats
       → IsUpTo g session (given session) (turned session) p2.kept.journal seat
@@ -60,35 +63,53 @@ module _ (g : Geometry) where
   clock_keeps pass asks c desk reading =
       cond_both (nat_lt c.now _) _ _ (λ (call : Call _). KeepsTo pass asks call.entries) (λ rises. ((λ step is. absurd (cc is)), tt)) (λ stays. tt)
 
-  -- so a reading leaves each session up to its bytes
-  clock_each : (p : Play) (line reading : ℕ) (now : ℕ) (given turned : ℕ → List ℕ) → Holds g p now given turned → (session : ℕ) → IsSession session
-      → IsUpTo g session (given session) (turned session) (clock p line reading).kept.journal (seat_at (clock p line reading) session)
-  clock_each p line reading now given turned was session is =
+  -- so does upkeep of the store
+  upkeep_keeps : (pass : ℕ) (asks : List Ask) (c : Cache) (desk : Desk) (kind : Upkeep) → KeepsTo pass asks (upkeep_call g c desk kind).entries
+  upkeep_keeps pass asks c desk kind = upkeep_entries (KeepsTo pass asks) tt (λ key cause. ((λ step is. absurd (cc is)), tt)) g c desk kind
+
+  -- a call that no session makes leaves each session up to its bytes
+  call_each : (p : Play) (line : ℕ) (call : Call Bool) (now : ℕ) (given turned : ℕ → List ℕ) → ((pass : ℕ) (asks : List Ask) → KeepsTo pass asks call.entries) → Holds g p now given turned → (session : ℕ) → IsSession session
+      → IsUpTo g session (given session) (turned session) (called p line call).kept.journal (seat_at (called p line call) session)
+  call_each p line call now given turned keeps was session is =
       let up = was.each session is in
       let seat = seat_at p session in
-      let call = clock_call p.kept.cache p.kept.desk reading in
-      let there : seat ≡ seat_at (clock p line reading) session = sym (seat_is p (clock p line reading) session (seats_clock p line reading)) in
+      let there : seat ≡ seat_at (called p line call) session = sym (seat_is p (called p line call) session (seats_called p line call)) in
       let after : IsUpTo g session (given session) (turned session) (after_call p.kept call).journal seat = record {
         done = up.done;
         done_are = up.done_are;
         read = up.read;
-        served = served_behind g session p.kept.journal call.entries up.done seat.last seat.replies (clock_keeps session (asks_of up.done) p.kept.cache p.kept.desk reading) up.served;
+        served = served_behind g session p.kept.journal call.entries up.done seat.last seat.replies (keeps session (asks_of up.done)) up.served;
         ended = up.ended;
         closed_is = up.closed_is;
       } in
-      subst (λ (k : StoreState). IsUpTo g session (given session) (turned session) k.journal (seat_at (clock p line reading) session)) (sym (kept_clock p line reading))
+      subst (λ (k : StoreState). IsUpTo g session (given session) (turned session) k.journal (seat_at (called p line call) session)) (sym (kept_called p line call))
       (subst (IsUpTo g session (given session) (turned session) (after_call p.kept call).journal) there after)
 
   -- a reading of the clock
   clock_holds : (p : Play) (line reading now : ℕ) (given turned : ℕ → List ℕ) → Holds g p now given turned
-      → Holds g (clock p line reading) (max now (min reading (2 ^ 62))) (λ session. given session ++ []) turned
-  clock_holds p line reading now given turned was = record {
-    moment = ap (λ (k : StoreState). k.cache.now) (kept_clock p line reading) ∙ clock_moment p.kept.cache p.kept.desk reading ∙ ap (λ n. max n (min reading (2 ^ 62))) was.moment;
-    kept = subst (IsKept g) (sym (kept_clock p line reading)) (clock_kept g p.kept reading was.kept);
-    sixteen = step_seats g p line (Clock reading) was.sixteen;
-    numbered = step_numbered g p line (Clock reading) was.sixteen tt was.numbered;
-    each = λ session is. given_none g session (given session) [] (turned session) (clock p line reading).kept.journal (seat_at (clock p line reading) session) refl (clock_each p line reading now given turned was session is);
-  }
+      → Holds g (play_step g p line (Clock reading)) (max now (min reading (2 ^ 62))) (λ session. given session ++ []) turned
+  clock_holds p line reading now given turned was =
+      let call = clock_call p.kept.cache p.kept.desk reading in record {
+        moment = ap (λ (k : StoreState). k.cache.now) (kept_called p line call) ∙ clock_moment p.kept.cache p.kept.desk reading ∙ ap (λ n. max n (min reading (2 ^ 62))) was.moment;
+        kept = subst (IsKept g) (sym (kept_called p line call)) (clock_kept laws g p.kept reading was.kept);
+        sixteen = step_seats g p line (Clock reading) was.sixteen;
+        numbered = step_numbered g p line (Clock reading) was.sixteen tt was.numbered;
+        each = λ session is. given_none g session (given session) [] (turned session) (called p line call).kept.journal (seat_at (called p line call) session) refl
+            (call_each p line call now given turned (λ pass asks. clock_keeps pass asks p.kept.cache p.kept.desk reading) was session is);
+      }
+
+  -- upkeep of the store
+  upkeep_holds : (p : Play) (line : ℕ) (kind : Upkeep) (now : ℕ) (given turned : ℕ → List ℕ) → Holds g p now given turned
+      → Holds g (play_step g p line (Keep kind)) now (λ session. given session ++ []) turned
+  upkeep_holds p line kind now given turned was =
+      let call = upkeep_call g p.kept.cache p.kept.desk kind in record {
+        moment = ap (λ (k : StoreState). k.cache.now) (kept_called p line call) ∙ upkept_moment g p.kept.cache p.kept.desk kind ∙ was.moment;
+        kept = subst (IsKept g) (sym (kept_called p line call)) (upkeep_kept laws g p.kept kind was.kept);
+        sixteen = step_seats g p line (Keep kind) was.sixteen;
+        numbered = step_numbered g p line (Keep kind) was.sixteen tt was.numbered;
+        each = λ session is. given_none g session (given session) [] (turned session) (called p line call).kept.journal (seat_at (called p line call) session) refl
+            (call_each p line call now given turned (λ pass asks. upkeep_keeps pass asks p.kept.cache p.kept.desk kind) was session is);
+      }
 
   -- bytes for a session
   module _ (p : Play) (line session : ℕ) (bytes : List ℕ) (now : ℕ) (given turned : ℕ → List ℕ) (was : Holds g p now given turned) (is : IsSession session) where
@@ -151,7 +172,7 @@ module _ (g : Geometry) where
     run_serves : Serves g session after ((was.each session is).done ++ (seat_at p session).waiting)
     run_serves =
         let up = was.each session is in
-        act_all_serves g session before up.done (seat_at p session).waiting (record { kept = was.kept; new = was.numbered session is; served = up.served })
+        act_all_serves g session laws before up.done (seat_at p session).waiting (record { kept = was.kept; new = was.numbered session is; served = up.served })
 
     -- it is up to its bytes, and nothing waits
     run_own : IsUpTo g session (given session) (after_turn session) after.0.journal (seat_after_run after.1)
@@ -201,6 +222,7 @@ module _ (g : Geometry) where
       → Holds g (play_step g p line step) (moment_with now step) (λ session. given session ++ bytes_for session step) (λ session. if is_run session step then given session else turned session)
   step_holds p line (Clock reading) now given turned seated was = clock_holds p line reading now given turned was
   step_holds p line (Say session bytes) now given turned seated was = say_holds p line session bytes now given turned was seated
+  step_holds p line (Keep kind) now given turned seated was = upkeep_holds p line kind now given turned was
   step_holds p line (Run session) now given turned seated was = run_holds p line session now given turned was seated
 
   -- and so do all steps
@@ -214,10 +236,13 @@ module _ (g : Geometry) where
       subst (λ (all : ℕ → List ℕ). Holds g (play_from g p line (step ∷ steps)) (moment_after now (step ∷ steps)) all with_more) (λ j session. append_assoc (given session) (bytes_for session step) (bytes_to session steps) j) after
 
   -- before the first step
+  first_listed : IsListed first_cache.items first_desk.lists
+  first_listed = laws.none
+
   pub first_holds : Holds g first_play 0 (λ session. []) (λ session. [])
   first_holds = record {
     moment = refl;
-    kept = record { run = record { legal = tt; same = refl }; here = first_here };
+    kept = record { running = record { run = record { legal = tt; same = refl }; listed = first_listed }; here = first_here };
     sixteen = refl;
     numbered = first_numbered;
     each = λ session is. subst (IsUpTo g session [] [] []) (sym (nobody 16 (session - 1))) (first_up g session);
@@ -227,8 +252,8 @@ module _ (g : Geometry) where
   is_right : (steps : List Step) → AreSeated steps → IsRight g steps
   is_right steps seated =
       let all = steps_hold first_play 2 steps 0 (λ session. []) (λ session. []) seated first_holds in record {
-        legal = all.kept.run.legal;
-        moment = ap (λ (c : Cache). c.now) (sym all.kept.run.same) ∙ all.moment;
+        legal = all.kept.running.run.legal;
+        moment = ap (λ (c : Cache). c.now) (sym all.kept.running.run.same) ∙ all.moment;
         answered = λ session is.
             let journal = (play_of g steps).kept.journal in
             let seat = seat_at (play_of g steps) session in
@@ -237,5 +262,5 @@ module _ (g : Geometry) where
       }
 
 -- the law
-pub every_play : EveryPlayIsRight
-every_play = λ g steps seated. is_right g steps seated
+pub every_play : StoreLaws → EveryPlayIsRight
+every_play laws = λ g steps seated. is_right laws g steps seated

@@ -19,7 +19,11 @@ use Rattle.flash_machine.specs.Storing.{stored_item, store_outcome, refusal}
 use Rattle.flash_machine.specs.Looking.{look_next, fetched_item}
 use Rattle.flash_machine.specs.Steps.{clock_next}
 use Rattle.flash_core.specs.Store.{Desk, Call}
-use Rattle.flash_core.specs.Calls.{is_expired_at, sweep, store_call, look_call, clock_call}
+use Rattle.flash_core.specs.Calls.{store_call, look_call, clock_call}
+use Rattle.flash_core.specs.Sweeps.{is_expired_at, sweep}
+use Rattle.flash_trace.specs.declared.step.Upkeep.{Upkeep}
+use Rattle.flash_trace.specs.Playing.{upkeep_call}
+use Rattle.flash_trace.proofs.Playing.Upkept.{upkeep_cache}
 
 -- an item, where there is one, has no label
 abbrev pub HasNoLabel : Option Item → Type 0
@@ -90,6 +94,10 @@ moved_here c moment here = cond_both (is_reached c.pending_flush moment) _ _ (λ
 pub clock_here : (c : Cache) (desk : Desk) (reading : ℕ) → AreHere c.items → AreHere (clock_call c desk reading).cache.items
 clock_here c desk reading here =
     cond_both (nat_lt c.now _) _ _ (λ (call : Call _). AreHere call.cache.items) (λ rises. moved_here c (min reading (2 ^ 62)) here) (λ stays. here)
+
+-- upkeep of the store drops one at most
+pub upkept_here : (g : Geometry) (c : Cache) (desk : Desk) (kind : Upkeep) → AreHere c.items → AreHere (upkeep_call g c desk kind).cache.items
+upkept_here g c desk kind here = upkeep_cache (λ (d : Cache). AreHere d.items) c here (λ key. removed_here c.items key here) g desk kind
 
 -- the cache before the first entry has none
 pub first_here : AreHere first_cache.items

@@ -16,11 +16,14 @@ use Rattle.flash_machine.specs.Moments.{is_reached}
 use Rattle.flash_machine.specs.Steps.{clock_next}
 use Rattle.flash_machine.specs.Storing.{refusal, stored_item, store_outcome}
 use Rattle.flash_core.specs.Store.{Desk, Call}
-use Rattle.flash_core.specs.Calls.{is_expired_at, sweep, store_call, look_call, clock_call}
+use Rattle.flash_core.specs.Calls.{store_call, look_call, clock_call}
+use Rattle.flash_core.specs.Sweeps.{is_expired_at, sweep}
 use Rattle.flash_trace.specs.declared.command.Command.{Command}
 use Rattle.flash_trace.specs.declared.command.Command.TheVariants.{Get, Store, Refused}
 use Rattle.flash_trace.proofs.Playing.NewNumbers.{number_of, plainly}
-use Rattle.flash_trace.specs.Playing.{Seat, StoreState, act, act_all}
+use Rattle.flash_trace.specs.declared.step.Upkeep.{Upkeep}
+use Rattle.flash_trace.specs.Playing.{Seat, StoreState, act, act_all, upkeep_call}
+use Rattle.flash_trace.proofs.Playing.Upkept.{upkeep_cache}
 
 -- a sweep leaves the moment
 swept_moment : (c : Cache) (desk : Desk) (key : List ℕ) → (sweep c desk key).cache.now ≡ c.now
@@ -56,6 +59,10 @@ clock_moment c desk reading =
     cond_both (nat_lt c.now moment) _ _ (λ (call : Call _). call.cache.now ≡ max c.now moment)
     (λ rises. risen_moment c moment ∙ (let above : c.now < moment = grind (arith, nat_tests) in omega (arith, above)))
     (λ stays. let below : moment ≤ c.now = grind (arith, nat_tests) in omega (arith, below))
+
+-- upkeep of the store leaves it
+pub upkept_moment : (g : Geometry) (c : Cache) (desk : Desk) (kind : Upkeep) → (upkeep_call g c desk kind).cache.now ≡ c.now
+upkept_moment g c desk kind = upkeep_cache (λ (d : Cache). d.now ≡ c.now) c refl (λ key. refl) g desk kind
 
 module _ (g : Geometry) (pass : ℕ) where
   act_moment : (state : StoreState × Seat) (command : Command) → (act g pass state command).0.cache.now ≡ state.0.cache.now

@@ -1,5 +1,5 @@
 -- Numbers of steps are never given twice.
-use Rattle.std.proofs.Common.{◌≡◌, ◌≢◌, ℕ, ◌+◌, ◌≤◌, true, List, [], ◌∷◌, ◌++◌, length, Option, None, Some, refl, sym, ap, subst, inl, inr, arith}
+use Rattle.std.proofs.Common.{◌≡◌, ◌≢◌, ℕ, ◌+◌, ◌≤◌, Bool, true, List, [], ◌∷◌, ◌++◌, length, Option, None, Some, refl, sym, ap, subst, inl, inr, arith}
 use Rattle.std.specs.Prelude.{nat_lt, codes}
 use Rattle.std.specs.List.{AllByRecursion}
 use Rattle.std.proofs.lemmas.Bool.{cases_eq, cond_both}
@@ -17,12 +17,13 @@ use Rattle.flash_core.proofs.News.{new_behind}
 use Rattle.flash_trace.specs.declared.command.Command.{Command}
 use Rattle.flash_trace.specs.declared.command.Command.TheVariants.{Get, Store, Refused}
 use Rattle.flash_trace.specs.Answers.{done_ask}
-use Rattle.flash_trace.specs.Playing.{Seat, StoreState, Play, first_play, after_call, act, act_all, seat_after_run, seat_at, with_seat, with_line, seat_after_input, run, clock, play_step}
-use Rattle.flash_trace.specs.Steps.{Step, Clock, Say, Run, IsSession, IsSeated}
+use Rattle.flash_trace.specs.Playing.{Seat, StoreState, Play, first_play, after_call, act, act_all, seat_after_run, seat_at, with_seat, with_line, seat_after_input, run, called, upkeep_call, play_step}
+use Rattle.flash_trace.specs.Steps.{Step, Clock, Say, Run, Keep, IsSession, IsSeated}
 use Rattle.flash_trace.specs.Seats.{next_id, IsNumbered}
 use Rattle.flash_trace.proofs.Answering.AskedSteps.{IsOf, AreOf, store_asked, look_asked}
 use Rattle.flash_trace.proofs.Lists.{all_map}
-use Rattle.flash_trace.proofs.Playing.Seating.{seat_is, seat_same, seat_other, kept_clock, seats_clock}
+use Rattle.flash_trace.proofs.Playing.Seating.{seat_is, seat_same, seat_other, kept_called, seats_called}
+use Rattle.flash_trace.proofs.Playing.Upkept.{upkeep_entries}
 
 -- the number that an entry records is earlier
 abbrev IsBefore : Id → Entry → Type 0
@@ -109,20 +110,22 @@ numbered_with p p2 session seat sixteen is seats own others numbered other is_ot
       (others (next_id p other) differ (numbered other is_other))
 ]
 
--- a reading of the clock records no step
-clock_numbered : (p : Play) (line reading : ℕ) → IsNumbered p → IsNumbered (clock p line reading)
-clock_numbered p line reading numbered session is =
-    let call = clock_call p.kept.cache p.kept.desk reading in
+-- a call that no session makes records no step
+called_numbered : (p : Play) (line : ℕ) (call : Call Bool) → ((id : Id) → AllByRecursion (IsBefore id) call.entries) → IsNumbered p → IsNumbered (called p line call)
+called_numbered p line call earlier numbered session is =
     let id = next_id p session in
-    let earlier : AllByRecursion (IsBefore id) call.entries =
-    cond_both (nat_lt p.kept.cache.now _) _ _ (λ (c : Call _). AllByRecursion (IsBefore id) c.entries) (λ rises. (tt, tt)) (λ stays. tt) in
-    subst (λ (k : StoreState). IsNew k.journal (next_id (clock p line reading) session)) (sym (kept_clock p line reading))
-    (subst (λ (s : Seat). IsNew (after_call p.kept call).journal (number_of session s)) (sym (seat_is p (clock p line reading) session (seats_clock p line reading)))
-    (new_behind p.kept.journal id call.entries (numbered session is) earlier))
+    subst (λ (k : StoreState). IsNew k.journal (next_id (called p line call) session)) (sym (kept_called p line call))
+    (subst (λ (s : Seat). IsNew (after_call p.kept call).journal (number_of session s)) (sym (seat_is p (called p line call) session (seats_called p line call)))
+    (new_behind p.kept.journal id call.entries (numbered session is) (earlier id)))
+
+clock_earlier : (p : Play) (reading : ℕ) (id : Id) → AllByRecursion (IsBefore id) (clock_call p.kept.cache p.kept.desk reading).entries
+clock_earlier p reading id = cond_both (nat_lt p.kept.cache.now _) _ _ (λ (c : Call _). AllByRecursion (IsBefore id) c.entries) (λ rises. (tt, tt)) (λ stays. tt)
 
 -- each step keeps each session's next number new
 pub step_numbered : (g : Geometry) (p : Play) (line : ℕ) (step : Step) → length p.seats ≡ 16 → IsSeated step → IsNumbered p → IsNumbered (play_step g p line step)
-step_numbered g p line (Clock reading) sixteen seated numbered = clock_numbered p line reading numbered
+step_numbered g p line (Clock reading) sixteen seated numbered = called_numbered p line (clock_call p.kept.cache p.kept.desk reading) (clock_earlier p reading) numbered
+step_numbered g p line (Keep kind) sixteen seated numbered =
+    called_numbered p line (upkeep_call g p.kept.cache p.kept.desk kind) (λ id. upkeep_entries (AllByRecursion (IsBefore id)) tt (λ key cause. (tt, tt)) g p.kept.cache p.kept.desk kind) numbered
 step_numbered g p line (Say session bytes) sixteen seated numbered =
     let seat = seat_at p session in
     let closed = with_line (with_seat p session seat) (codes "closed") line in

@@ -2,7 +2,7 @@
 use Rattle.std.proofs.Common.{◌≡◌, ℕ, Bool, List, [], length, map, replicate, Option, None, Some, ◌∙◌, ap}
 use Rattle.flash_entry.specs.declared.entry.Entry.{Entry}
 use Rattle.flash_machine.specs.Cache.{Cache, first_cache}
-use Rattle.flash_core.specs.Store.{Store, Desk}
+use Rattle.flash_core.specs.Store.{Store, Desk, first_desk}
 use Rattle.flash_trace.specs.declared.play.Seat as code
 use Rattle.flash_trace.specs.declared.play.Play as code_play
 use Rattle.flash_trace.specs.Output.{journal_if, play_text, output}
@@ -13,15 +13,15 @@ use Rattle.std.specs.Option.{option_map}
 use Rattle.std.specs.Prelude.{Result, Ok, Err, IfOk}
 
 -- a store that was opened and no session, before the first step
-pub first_state : (s : Store) (p : code_play.Play) → s.told ≡ Some [] → s.cache ≡ first_cache → s.desk ≡ record { hot = [] } → p.printed.items ≡ [] → p.seats.items ≡ replicate 16 None → state_of s p ≡ first_play
+pub first_state : (s : Store) (p : code_play.Play) → s.told ≡ Some [] → s.cache ≡ first_cache → s.desk ≡ first_desk → p.printed.items ≡ [] → p.seats.items ≡ replicate 16 None → state_of s p ≡ first_play
 first_state s p told cache desk printed seats =
     let by : Option (List Entry) → Cache → Desk → List ℕ → List (Option code.Seat) → Play =
     λ t c d l m. record { kept = record { journal = entries_of t; cache = c; desk = d }; printed = l; seats = map (option_map seat_of) m } in
     ap (λ (t : Option (List Entry)). by t s.cache s.desk p.printed.items p.seats.items) told
     ∙ ap (λ (c : Cache). by (Some []) c s.desk p.printed.items p.seats.items) cache
     ∙ ap (λ (d : Desk). by (Some []) first_cache d p.printed.items p.seats.items) desk
-    ∙ ap (λ (l : List ℕ). by (Some []) first_cache (record { hot = [] }) l p.seats.items) printed
-    ∙ ap (λ (l : List (Option code.Seat)). by (Some []) first_cache (record { hot = [] }) [] l) seats
+    ∙ ap (λ (l : List ℕ). by (Some []) first_cache first_desk l p.seats.items) printed
+    ∙ ap (λ (l : List (Option code.Seat)). by (Some []) first_cache first_desk [] l) seats
 
 -- what the code prints of a state is the output of the script that leads to it
 pub output_is : (script : Script) (with_journal : Bool) (s : Store) (p : code_play.Play) (journal : List Entry) (count : ℕ) (out : List ℕ)

@@ -1,5 +1,5 @@
 -- What the steps of a script print, and which sessions they make.
-use Rattle.std.proofs.Common.{◌≡◌, ℕ, zero, suc, ◌+◌, ◌-◌, ◌^◌, min, Bool, true, false, nat_eq, nat_lt, List, [], ◌∷◌, ◌++◌, length, Option, None, Some, refl, sym, ◌∙◌, ap, arith, append_assoc, if◌then◌else◌, is_some}
+use Rattle.std.proofs.Common.{◌≡◌, ℕ, zero, suc, ◌+◌, ◌-◌, ◌^◌, min, Bool, true, false, nat_eq, nat_lt, List, [], ◌∷◌, ◌++◌, length, Option, None, Some, refl, sym, ◌∙◌, ap, arith, append_assoc, length-append, if◌then◌else◌, is_some}
 use Rattle.std.specs.Prelude.{slice_get, codes, decimal, replicate, ◌||◌}
 use Rattle.std.specs.List.{list_any}
 use Rattle.std.specs.Option.{option_flatten}
@@ -14,13 +14,14 @@ use Rattle.flash_core.specs.Store.{Desk, Call}
 use Rattle.flash_core.specs.Calls.{clock_call}
 use Rattle.flash_trace.specs.Answers.{bytes_for, bytes_to, bytes_before_last_run, is_run, moment_with, moment_after}
 use Rattle.flash_trace.specs.Commands.{commands_of, is_at_end}
-use Rattle.flash_trace.specs.Playing.{Seat, Play, seat_at, with_seat, with_line, seat_after_input, seat_after_run, act_all, after_call, play_step, play_from, first_play}
-use Rattle.flash_trace.specs.Printing.{printed_line, step_prints, steps_print, names, EveryPlayIsPrinted}
-use Rattle.flash_trace.specs.Steps.{Step, Clock, Say, Run, IsSession, IsSeated, AreSeated}
+use Rattle.flash_trace.specs.Playing.{Seat, Play, seat_at, with_seat, with_line, seat_after_input, seat_after_run, act_all, after_call, called, upkeep_call, play_step, play_from, play_of, first_play}
+use Rattle.flash_trace.specs.Printing.{printed_line, step_prints, upkeep_does, steps_print, names, EveryPlayIsPrinted}
+use Rattle.flash_trace.specs.Steps.{Step, Clock, Say, Run, Keep, IsSession, IsSeated, AreSeated}
 use Rattle.flash_trace.proofs.Answering.BeforeLastRun.{turned_behind, turned_from_first}
 use Rattle.flash_trace.proofs.Lists.{get-set_same, get-set_other}
 use Rattle.flash_trace.proofs.Answering.Right.{Holds, step_holds, first_holds}
-use Rattle.flash_trace.proofs.Playing.Seating.{step_seats, seats_clock}
+use Rattle.flash_trace.proofs.Playing.Seating.{step_seats, seats_called}
+use Rattle.flash_trace.proofs.Answering.Acted.{StoreLaws}
 
 -- the text of a line that names the script's line, after what was printed before
 line_text : (printed word : List ℕ) (line : ℕ) → printed ++ word ++ 32 ∷ decimal line ++ 10 ∷ [] ≡ printed ++ printed_line word line
@@ -51,15 +52,29 @@ moment_more : (now : ℕ) (steps : List Step) (step : Step) → moment_after now
 moment_more now [] step = refl
 moment_more now (first ∷ steps) step = moment_more (moment_with now first) steps step
 
--- what was so far told of the sessions and the clock is read off the steps before
-record Follows (before : List Step) (now : ℕ) (given turned : ℕ → List ℕ) : Type 0 where
+-- a play of one step more
+played_more : (g : Geometry) (p : Play) (line : ℕ) (steps : List Step) (step : Step) → play_from g p line (steps ++ step ∷ []) ≡ play_step g (play_from g p line steps) (line + length steps) step
+played_more g p line [] step = ap (λ n. play_step g p n step) (omega arith)
+played_more g p line (first ∷ steps) step =
+    played_more g (play_step g p line first) (line + 1) steps step
+    ∙ ap (λ n. play_step g (play_from g p line (first ∷ steps)) n step) (omega arith)
+
+length_more : (steps : List Step) (step : Step) → 2 + length steps + 1 ≡ 2 + length (steps ++ step ∷ [])
+length_more steps step = let more : length (steps ++ step ∷ []) ≡ length steps + 1 = length-append steps (step ∷ []) in omega (arith, more)
+
+-- what was so far played, and told of the sessions and the clock, is read off the steps before
+record Follows (g : Geometry) (p : Play) (line : ℕ) (before : List Step) (now : ℕ) (given turned : ℕ → List ℕ) : Type 0 where
+  played : p ≡ play_of g before
+  line_is : line ≡ 2 + length before
   now_is : now ≡ moment_after 0 before
   given_is : (session : ℕ) → given session ≡ bytes_to session before
   turned_is : (session : ℕ) → turned session ≡ bytes_before_last_run session before
 
-follows_more : (before : List Step) (now : ℕ) (given turned : ℕ → List ℕ) (step : Step) → Follows before now given turned
-    → Follows (before ++ step ∷ []) (moment_with now step) (λ session. given session ++ bytes_for session step) (λ session. if is_run session step then given session else turned session)
-follows_more before now given turned step was = record {
+follows_more : (g : Geometry) (p : Play) (line : ℕ) (before : List Step) (now : ℕ) (given turned : ℕ → List ℕ) (step : Step) → Follows g p line before now given turned
+    → Follows g (play_step g p line step) (line + 1) (before ++ step ∷ []) (moment_with now step) (λ session. given session ++ bytes_for session step) (λ session. if is_run session step then given session else turned session)
+follows_more g p line before now given turned step was = record {
+  played = λ i. (ap (λ (q : Play). play_step g q line step) was.played ∙ ap (λ n. play_step g (play_of g before) n step) was.line_is ∙ sym (played_more g first_play 2 before step)) i;
+  line_is = ap (λ n. n + 1) was.line_is ∙ length_more before step;
   now_is = ap (λ n. moment_with n step) was.now_is ∙ sym (moment_more 0 before step);
   given_is = λ session. ap (λ (l : List ℕ). l ++ bytes_for session step) (was.given_is session) ∙ sym (bytes_more session before step);
   turned_is = λ session.
@@ -84,9 +99,9 @@ clock_done : (c : Cache) (desk : Desk) (reading : ℕ) → (clock_call c desk re
 clock_done c desk reading =
     cond_both (nat_lt c.now (min reading (2 ^ 62))) _ _ (λ (call : Call Bool). call.answer ≡ nat_lt c.now (min reading (2 ^ 62))) (λ above. sym above) (λ below. sym below)
 
-module _ (g : Geometry) where
+module _ (laws : StoreLaws) (g : Geometry) where
   -- one step prints what is read off those before it
-  step_printed : (before : List Step) (p : Play) (line : ℕ) (step : Step) (now : ℕ) (given turned : ℕ → List ℕ) → IsSeated step → Holds g p now given turned → Follows before now given turned
+  step_printed : (before : List Step) (p : Play) (line : ℕ) (step : Step) (now : ℕ) (given turned : ℕ → List ℕ) → IsSeated step → Holds g p now given turned → Follows g p line before now given turned
       → (play_step g p line step).printed ≡ p.printed ++ step_prints g before line step
   step_printed before p line (Clock reading) now given turned seated was follows =
       let noted : Play = record p { kept = after_call p.kept (clock_call p.kept.cache p.kept.desk reading) } in
@@ -99,15 +114,19 @@ module _ (g : Geometry) where
       ∙ ap (λ closed. p.printed ++ (if closed then printed_line (codes "closed") line else []))
       ((was.each session seated).closed_is ∙ ap (λ (l : List ℕ). is_at_end (commands_of g.item_max l).1) (follows.turned_is session))
   step_printed before p line (Run session) now given turned seated was follows = sym (append-nil p.printed)
+  step_printed before p line (Keep kind) now given turned seated was follows =
+      let call = upkeep_call g p.kept.cache p.kept.desk kind in
+      printed_unless call.answer (record p { kept = after_call p.kept call }) (codes "idle") line
+      ∙ ap (λ (q : Play). p.printed ++ (if upkeep_does g q kind then [] else printed_line (codes "idle") line)) follows.played
 
   -- so do all steps
-  steps_printed : (before : List Step) (p : Play) (line : ℕ) (steps : List Step) (now : ℕ) (given turned : ℕ → List ℕ) → AreSeated steps → Holds g p now given turned → Follows before now given turned
+  steps_printed : (before : List Step) (p : Play) (line : ℕ) (steps : List Step) (now : ℕ) (given turned : ℕ → List ℕ) → AreSeated steps → Holds g p now given turned → Follows g p line before now given turned
       → (play_from g p line steps).printed ≡ p.printed ++ steps_print g before line steps
   steps_printed before p line [] now given turned seated was follows = sym (append-nil p.printed)
   steps_printed before p line (step ∷ steps) now given turned seated was follows =
       let next = play_step g p line step in
       steps_printed (before ++ step ∷ []) next (line + 1) steps (moment_with now step) (λ session. given session ++ bytes_for session step) (λ session. if is_run session step then given session else turned session)
-      seated.1 (step_holds g p line step now given turned seated.0 was) (follows_more before now given turned step follows)
+      seated.1 (step_holds laws g p line step now given turned seated.0 was) (follows_more g p line before now given turned step follows)
       ∙ ap (λ (l : List ℕ). l ++ steps_print g (before ++ step ∷ []) (line + 1) steps) (step_printed before p line step now given turned seated.0 was follows)
       ∙ append_assoc p.printed (step_prints g before line step) (steps_print g (before ++ step ∷ []) (line + 1) steps)
 
@@ -140,7 +159,9 @@ made_with p other session seat sixteen is-other is = dite (ℕ_discrete other se
 module _ (g : Geometry) (session : ℕ) (is : IsSession session) where
   step_made : (p : Play) (line : ℕ) (step : Step) → length p.seats ≡ 16 → IsSeated step → is_made (play_step g p line step) session ≡ is_made p session || names session step
   step_made p line (Clock reading) sixteen seated =
-      ap (λ (l : List (Option Seat)). is_some (option_flatten (slice_get l (session - 1)))) (seats_clock p line reading) ∙ sym (or_false (is_made p session))
+      ap (λ (l : List (Option Seat)). is_some (option_flatten (slice_get l (session - 1)))) (seats_called p line (clock_call p.kept.cache p.kept.desk reading)) ∙ sym (or_false (is_made p session))
+  step_made p line (Keep kind) sixteen seated =
+      ap (λ (l : List (Option Seat)). is_some (option_flatten (slice_get l (session - 1)))) (seats_called p line (upkeep_call g p.kept.cache p.kept.desk kind)) ∙ sym (or_false (is_made p session))
   step_made p line (Say other bytes) sixteen seated =
       let seat = seat_at p other in
       cond_both seat.closed (with_line (with_seat p other seat) (codes "closed") line) (with_seat p other (seat_after_input g seat bytes)) (λ q. is_made q session ≡ is_made p session || nat_eq other session)
@@ -165,8 +186,8 @@ none_made (suc n) zero = refl
 none_made (suc n) (suc i) = none_made n i
 
 -- the law
-pub every_play_prints : EveryPlayIsPrinted
-every_play_prints = λ g steps seated. record {
-  printed = steps_printed g [] first_play 2 steps 0 (λ session. []) (λ session. []) seated (first_holds g) (record { now_is = refl; given_is = λ session. refl; turned_is = λ session. refl });
+pub every_play_prints : StoreLaws → EveryPlayIsPrinted
+every_play_prints laws = λ g steps seated. record {
+  printed = steps_printed laws g [] first_play 2 steps 0 (λ session. []) (λ session. []) seated (first_holds laws g) (record { played = refl; line_is = refl; now_is = refl; given_is = λ session. refl; turned_is = λ session. refl });
   made = λ session is. steps_made g session is first_play 2 steps refl seated ∙ ap (λ b. b || list_any (names session) steps) (none_made 16 (session - 1));
 }

@@ -4,9 +4,9 @@ use Rattle.std.specs.Prelude.{slice_get, codes, replicate}
 use Rattle.std.proofs.lemmas.Bool.{cond_both}
 use Rattle.flash_names.specs.declared.geometry.Geometry.{Geometry}
 use Rattle.flash_core.specs.Store.{Call}
+use Rattle.flash_trace.specs.Playing.{Seat, Play, new_seat, after_call, act_all, seat_after_run, seat_at, seat_or_new, with_seat, with_line, seat_after_input, called, play_step, upkeep_call}
 use Rattle.flash_core.specs.Calls.{clock_call}
-use Rattle.flash_trace.specs.Playing.{Seat, Play, new_seat, after_call, act_all, seat_after_run, seat_at, seat_or_new, with_seat, with_line, seat_after_input, clock, play_step}
-use Rattle.flash_trace.specs.Steps.{Step, Clock, Say, Run, IsSession}
+use Rattle.flash_trace.specs.Steps.{Step, Clock, Say, Run, Keep, IsSession}
 use Rattle.flash_trace.proofs.Lists.{get-set_same, get-set_other}
 
 -- the same places have the same sessions
@@ -27,23 +27,21 @@ module _ (p p2 : Play) (session : ℕ) (seat : Seat) (sixteen : length p.seats �
 seats_with : (p : Play) (session : ℕ) (seat : Seat) → length p.seats ≡ 16 → length (with_seat p session seat).seats ≡ 16
 seats_with p session seat sixteen = length-set p.seats (session - 1) _ ∙ sixteen
 
--- a reading of the clock leaves the sessions, and changes the store by its call
-module _ (p : Play) (line reading : ℕ) where
-  abbrev read : Call Bool
-  read = clock_call p.kept.cache p.kept.desk reading
-
+-- a call that no session makes leaves the sessions, and changes the store
+module _ (p : Play) (line : ℕ) (call : Call Bool) where
   abbrev noted : Play
-  noted = record p { kept = after_call p.kept read }
+  noted = record p { kept = after_call p.kept call }
 
-  pub kept_clock : (clock p line reading).kept ≡ after_call p.kept read
-  kept_clock = cond_both read.answer noted (with_line noted (codes "idle") line) (λ q. q.kept ≡ after_call p.kept read) (λ is. refl) (λ is. refl)
+  pub kept_called : (called p line call).kept ≡ after_call p.kept call
+  kept_called = cond_both call.answer noted (with_line noted (codes "idle") line) (λ q. q.kept ≡ after_call p.kept call) (λ is. refl) (λ is. refl)
 
-  pub seats_clock : (clock p line reading).seats ≡ p.seats
-  seats_clock = cond_both read.answer noted (with_line noted (codes "idle") line) (λ q. q.seats ≡ p.seats) (λ is. refl) (λ is. refl)
+  pub seats_called : (called p line call).seats ≡ p.seats
+  seats_called = cond_both call.answer noted (with_line noted (codes "idle") line) (λ q. q.seats ≡ p.seats) (λ is. refl) (λ is. refl)
 
 -- each step keeps the sixteen places
 pub step_seats : (g : Geometry) (p : Play) (line : ℕ) (step : Step) → length p.seats ≡ 16 → length (play_step g p line step).seats ≡ 16
-step_seats g p line (Clock reading) sixteen = ap (λ (l : List (Option Seat)). length l) (seats_clock p line reading) ∙ sixteen
+step_seats g p line (Clock reading) sixteen = ap (λ (l : List (Option Seat)). length l) (seats_called p line (clock_call p.kept.cache p.kept.desk reading)) ∙ sixteen
+step_seats g p line (Keep kind) sixteen = ap (λ (l : List (Option Seat)). length l) (seats_called p line (upkeep_call g p.kept.cache p.kept.desk kind)) ∙ sixteen
 step_seats g p line (Say session bytes) sixteen =
     let seat = seat_at p session in
     cond_both seat.closed (with_line (with_seat p session seat) (codes "closed") line) (with_seat p session (seat_after_input g seat bytes)) (λ q. length q.seats ≡ 16)

@@ -25,6 +25,7 @@ both_ok (Err e) P Q first second = tt
 -- each step of the code has a session
 pub seated_meant : (script : List ℕ) (step : code_step.Step) → IsSeated (step_meant script step)
 seated_meant script (steps.Clock reading) = tt
+seated_meant script (steps.Keep kind) = tt
 seated_meant script (steps.Say session first last) = record { some = session.some; within = session.within }
 seated_meant script (steps.Run session) = record { some = session.some; within = session.within }
 

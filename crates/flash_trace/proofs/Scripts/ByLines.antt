@@ -11,7 +11,8 @@ use Rattle.flash_trace.specs.declared.fault.Why.{Why}
 use Rattle.flash_trace.specs.declared.fault.Why.TheVariants.{Short}
 use Rattle.flash_trace.specs.declared.fault.ScriptFault.{ScriptFault}
 use Rattle.flash_trace.specs.Steps.{Step}
-use Rattle.flash_trace.specs.Scripts.{Script, Lines, lines_of, step_of, geometry_of, fault_or, too_long, steps_fault, lines_fault, fault_of, steps_of, script_of_parts, script_of_lines, script_of}
+use Rattle.flash_streams.specs.Lines.{Lines, lines_of}
+use Rattle.flash_trace.specs.Scripts.{Script, step_of, geometry_of, fault_or, too_long, steps_fault, lines_fault, fault_of, steps_of, script_of_parts, script_of_lines, script_of}
 use Rattle.flash_trace.specs.ScriptLaws.{IsOfLines, IsStepLine, HasBadLine, HasOpenLine}
 use Rattle.flash_trace.proofs.Scripts.FirstLine.{by_lines}
 use Rattle.flash_trace.proofs.Scripts.Readings.{good_line, good_step}

@@ -11,8 +11,10 @@ use Rattle.flash_trace.specs.declared.fault.Why.{Why}
 use Rattle.flash_trace.specs.declared.fault.Why.TheVariants.{Short}
 use Rattle.flash_trace.specs.declared.fault.ScriptFault.{ScriptFault}
 use Rattle.flash_trace.specs.Steps.{Step}
-use Rattle.flash_trace.specs.Scripts.{lines_of, why_of, fault_or, too_long, fault_from, lines_fault, fault_of, steps_of, script_of_parts, script_of_lines, script_of}
-use Rattle.flash_trace.proofs.Scripts.Lines.{lines_cut, lines-cut, cut_joins}
+use Rattle.flash_streams.specs.Lines.{lines_of}
+use Rattle.flash_trace.specs.Scripts.{why_of, fault_or, too_long, fault_from, lines_fault, fault_of, steps_of, script_of_parts, script_of_lines, script_of}
+use Rattle.flash_streams.proofs.LineCuts.{lines_cut, lines-cut}
+use Rattle.flash_trace.proofs.Scripts.Lines.{cut_joins}
 
 -- where the bytes aren't too many, the lines say the fault
 pub by_lines : (bytes : List ℕ) → length bytes ≤ 16777216 → fault_of bytes ≡ lines_fault (lines_of bytes)

@@ -6,7 +6,8 @@ use Rattle.flash_trace.specs.declared.fault.ScriptFault.{ScriptFault}
 use Rattle.flash_trace.specs.declared.step.Step as code_step
 use Rattle.flash_trace.specs.Steps.{Step}
 use Rattle.flash_trace.specs.CodeScripts.{step_meant, IsWithin, AreWithin}
-use Rattle.flash_trace.specs.Scripts.{lines_of, steps_of, step_of, fault_from}
+use Rattle.flash_streams.specs.Lines.{lines_of}
+use Rattle.flash_trace.specs.Scripts.{steps_of, step_of, fault_from}
 use Rattle.flash_trace.proofs.Scripts.Lines.{steps_more, fault_more}
 
 -- steps with one more, before the steps that are left

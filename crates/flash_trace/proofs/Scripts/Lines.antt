@@ -1,5 +1,5 @@
 -- The lines of a script, by how its bytes are cut at their first line feed.
-use Rattle.std.proofs.Common.{◌≡◌, ℕ, ◌+◌, ◌-◌, ◌<◌, ◌≤◌, Bool, true, false, ◌==◌, nat_lt, List, [], ◌∷◌, ◌++◌, length, take, drop, Option, None, Some, Result, Ok, Err, if◌then◌else◌, slice_range, option_map, refl, sym, ◌∙◌, ap, arith, take_at, drop_at, append_assoc, length-append, drop-drop}
+use Rattle.std.proofs.Common.{◌≡◌, ℕ, ◌+◌, ◌-◌, ◌<◌, ◌≤◌, true, false, nat_lt, List, [], ◌∷◌, ◌++◌, length, take, drop, Option, None, Some, Result, Ok, Err, if◌then◌else◌, slice_range, option_map, refl, sym, ◌∙◌, ap, arith, take_at, drop_at, append_assoc, length-append, drop-drop}
 use Rattle.std.specs.Option.{option_and_then}
 use Rattle.std.specs.Result.{result_ok, result_err}
 use Rattle.std.proofs.lemmas.Bool.Decides.{nat_tests}
@@ -9,34 +9,10 @@ use Rattle.flash_trace.specs.declared.fault.Why.TheVariants.{Short}
 use Rattle.flash_trace.specs.declared.fault.ScriptFault.{ScriptFault}
 use Rattle.flash_trace.specs.Steps.{Step}
 use Rattle.flash_trace.proofs.Sessions.CutBytes.{cut_there}
+use Rattle.flash_streams.proofs.LineCuts.{lines_cut, lines-cut}
 use Rattle.flash_trace.specs.CodeScripts.{first_fault}
-use Rattle.flash_trace.specs.Scripts.{Lines, lines_of, in_first_line, step_of, fault_or, steps_fault, fault_from, steps_of, too_long}
-
--- the lines of bytes, by how they are cut at their first line feed
-abbrev pub lines_cut : List ℕ → Option (List ℕ × List ℕ) → Lines
-lines_cut bytes None = record { whole = []; rest = bytes }
-lines_cut bytes (Some parts) = record { whole = parts.0 ∷ (lines_of parts.1).whole; rest = (lines_of parts.1).rest }
-
--- a byte before bytes that are cut
-abbrev with_front : ℕ → Option (List ℕ × List ℕ) → Option (List ℕ × List ℕ)
-with_front b cut = option_map (λ parts. (b ∷ parts.0, parts.1)) cut
-
--- a byte before the first line
-lines_in_front : (b : ℕ) (bytes : List ℕ) (cut : Option (List ℕ × List ℕ)) → in_first_line b (lines_cut bytes cut) ≡ lines_cut (b ∷ bytes) (with_front b cut)
-lines_in_front b bytes None = refl
-lines_in_front b bytes (Some parts) = refl
-
--- a line feed or another byte in front
-by_test : (b : ℕ) (bytes : List ℕ) (feed : Bool) (cut : Option (List ℕ × List ℕ)) (lines : Lines) → lines ≡ lines_cut bytes cut
-    → (if feed then record { whole = [] ∷ (lines_of bytes).whole; rest = (lines_of bytes).rest } else in_first_line b lines)
-    ≡ lines_cut (b ∷ bytes) (if feed then Some ([], bytes) else with_front b cut)
-by_test b bytes true cut lines is = refl
-by_test b bytes false cut lines is = ap (in_first_line b) is ∙ lines_in_front b bytes cut
-
--- the lines of bytes: the first one, and those of what is after it
-pub lines-cut : (bytes : List ℕ) → lines_of bytes ≡ lines_cut bytes (cut_at 10 bytes)
-lines-cut [] = refl
-lines-cut (b ∷ bytes) = by_test b bytes (b == 10) (cut_at 10 bytes) (lines_of bytes) (lines-cut bytes)
+use Rattle.flash_streams.specs.Lines.{Lines, lines_of}
+use Rattle.flash_trace.specs.Scripts.{step_of, fault_or, steps_fault, fault_from, steps_of, too_long}
 
 -- bytes that are cut are their parts, with the byte between
 pub cut_joins : (c : ℕ) (bytes front with_more : List ℕ) → Some (front, with_more) ≡ cut_at c bytes → bytes ≡ front ++ c ∷ with_more

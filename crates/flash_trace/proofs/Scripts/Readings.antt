@@ -12,8 +12,9 @@ use Rattle.flash_trace.specs.declared.fault.Why.TheVariants.{BadWord, BadNumber}
 use Rattle.flash_trace.specs.declared.fault.ScriptFault.{ScriptFault}
 use Rattle.flash_trace.specs.declared.script.StepWord.{StepWord}
 use Rattle.flash_trace.specs.declared.script.StepWord.TheVariants as begins
-use Rattle.flash_trace.specs.Steps.{Step, Clock, Say, Run, IsSession, IsSeated, AreSeated}
-use Rattle.flash_trace.specs.Scripts.{Script, Lines, lines_of, behind_word, session_of, step_word, step_of_word, step_of_words, step_of, geometry_of, fault_or, too_long, steps_fault, lines_fault, fault_of, steps_of, script_of_parts, script_of_lines, script_of}
+use Rattle.flash_trace.specs.Steps.{Step, Clock, Say, Run, Keep, IsSession, IsSeated, AreSeated}
+use Rattle.flash_streams.specs.Lines.{Lines, lines_of}
+use Rattle.flash_trace.specs.Scripts.{Script, behind_word, session_of, step_word, step_of_word, step_of_words, step_of, geometry_of, fault_or, too_long, steps_fault, lines_fault, fault_of, steps_of, script_of_parts, script_of_lines, script_of}
 
 -- a line without a fault, and none after it
 pub record IsGood {A : Type 0} (r : Result A Why) (later : Option ScriptFault) : Type 0 where
@@ -96,6 +97,8 @@ step_seat begins.Run [] text step is = absurd (cc is)
 step_seat begins.Run (number ∷ []) text step is = number_seat Run (session_of number) step (λ n here. session_is (number_of number) n here) is
 step_seat begins.Run (number ∷ word ∷ more) text step is = absurd (cc is)
 step_seat begins.Say [] text step is = absurd (cc is)
+step_seat (begins.Keep kind) [] text step is = let same : Keep kind ≡ step = cc in subst IsSeated same tt
+step_seat (begins.Keep kind) (word ∷ more) text step is = absurd (cc is)
 step_seat begins.Say (number ∷ []) text step is = absurd (cc is)
 step_seat begins.Say (number ∷ word ∷ more) text step is = number_seat (λ n. Say n text) (session_of number) step (λ n here. session_is (number_of number) n here) is
 

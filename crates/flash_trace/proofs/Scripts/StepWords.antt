@@ -1,5 +1,7 @@
 -- The step of a line of at least three words, as the code cuts it.
-use Rattle.std.proofs.Common.{◌≡◌, ℕ, List, [], ◌∷◌, Option, None, Some, Result, Err, option_map, refl, ◌∙◌, ap, subst}
+use Rattle.std.proofs.Common.{◌≡◌, ℕ, List, [], ◌∷◌, Option, None, Some, Result, Ok, Err, option_map, refl, sym, ◌∙◌, ap, subst}
+use Rattle.std.specs.Prelude.{MatchResult}
+use Rattle.std.specs.Result.{result_map_both}
 use Rattle.std.specs.Option.{ok_or}
 use denote.Ref.{Bor}
 use Rattle.flash_names.specs.Words.{words, words_if}
@@ -7,6 +9,8 @@ use Rattle.flash_trace.specs.declared.fault.Why.{Why}
 use Rattle.flash_trace.specs.declared.fault.Why.TheVariants.{BadWord, BadNumber}
 use Rattle.flash_trace.specs.declared.script.StepWord.{StepWord}
 use Rattle.flash_trace.specs.declared.script.StepWord.TheVariants as begins
+use Rattle.flash_trace.specs.declared.step.Step as code_step
+use Rattle.flash_trace.specs.CodeScripts.{step_meant}
 use Rattle.flash_trace.specs.Steps.{Step, Say}
 use Rattle.flash_trace.specs.Scripts.{behind_word, session_of, step_word, step_of_word, step_of_words, step_of}
 use Rattle.flash_trace.proofs.Scripts.Words.{no_words, behind_first, IsEnd, end_twice}
@@ -53,3 +57,23 @@ module _ (line word number : List ℕ) (second third : Option (Bor (List ℕ))) 
 
   pub run_is : step_word word ≡ Some begins.Run → step_of line ≡ Err BadWord
   run_is is = step_is begins.Run is ∙ has_more begins.Run number input.now input.now (words input.now) (Err BadWord) refl (λ w ws. refl)
+
+-- a step of one word reads no text
+no_text : (begin : StepWord) (text : List ℕ) → step_of_word begin [] text ≡ step_of_word begin [] []
+no_text begins.Clock text = refl
+no_text begins.Run text = refl
+no_text begins.Say text = refl
+no_text (begins.Keep kind) text = refl
+
+-- the step of a line of one word
+pub one_word_is : (line word : List ℕ) (second : Option (Bor (List ℕ))) → words line ≡ word ∷ words_if (option_map (λ x. x.now) second) → second ≡ None → (begin : StepWord) → step_word word ≡ Some begin
+    → step_of line ≡ step_of_word begin [] []
+one_word_is line word second cut none begin is =
+    let text = behind_word (behind_word line) in
+    ap (λ (ws : List (List ℕ)). step_of_words ws text) (cut ∙ ap (λ (o : Option (Bor (List ℕ))). word ∷ words_if (option_map (λ x. x.now) o)) none)
+    ∙ ap (λ (b : Option StepWord). elim b [ None ↦ Err BadWord | Some begin ↦ step_of_word begin [] text ]) is ∙ no_text begin text
+
+-- what was read, or why it wasn't, as the code's step means
+pub match_read : (bytes : List ℕ) (r : Result code_step.Step Why) (e : Result Step Why) → result_map_both (step_meant bytes) (λ why. why) r ≡ e → MatchResult r (λ step. e ≡ Ok (step_meant bytes step)) (λ why. e ≡ Err why)
+match_read bytes (Ok step) e is = sym is
+match_read bytes (Err why) e is = sym is

@@ -4,18 +4,20 @@ use Rattle.std.proofs.lemmas.Bool.{lt-ltb}
 use Rattle.std.proofs.lemmas.List.{append-nil}
 use Rattle.flash_names.specs.Source.{IsAtEnd}
 use Rattle.flash_names.specs.Faults.{Rose}
-use Rattle.flash_names.specs.Told.{with_front}
 use Rattle.flash_trace.specs.declared.fault.ScriptFault.{ScriptFault}
 use Rattle.flash_trace.specs.declared.fault.Status.{Status}
 use Rattle.flash_trace.specs.declared.fault.Status.TheVariants as statuses
-use Rattle.flash_trace.specs.Ends.{Ends, EndsOf, HasRead, IsRead, HasReading, IsPrepared, IsAsked, IsComplete, IsTraced, EveryTraceIsRight}
+use Rattle.flash_streams.specs.Reading.{HasRead}
+use Rattle.flash_streams.proofs.Left.{leaves}
+use Rattle.flash_trace.specs.Ends.{Ends, EndsOf, IsRead, HasReading, IsPrepared, IsAsked, IsComplete, IsTraced, EveryTraceIsRight}
 use Rattle.flash_trace.specs.Outside.{SourceChange, SinkChange, DeviceChange}
 use Rattle.flash_trace.specs.declared.fault.Why.TheVariants.{TooLong}
-use Rattle.flash_trace.specs.Scripts.{Script, fault_of, script_of, script_of_lines, too_long, lines_fault, lines_of}
+use Rattle.flash_streams.specs.Lines.{lines_of}
+use Rattle.flash_trace.specs.Scripts.{Script, fault_of, script_of, script_of_lines, too_long, lines_fault}
 
 -- bytes that are lent were read as they are
-pub read_bytes : (lent bytes : List ℕ) (left left_after : Option (List ℕ)) → lent ≡ bytes → HasRead bytes left left_after → HasRead lent left left_after
-read_bytes lent bytes left left_after same read = subst (λ (l : List ℕ). HasRead l left left_after) (sym same) read
+pub read_bytes : (lent bytes : List ℕ) (left left_after : Option (List ℕ)) → lent ≡ bytes → HasRead 16777216 bytes left left_after → HasRead 16777216 lent left left_after
+read_bytes lent bytes left left_after same read = subst (λ (l : List ℕ). HasRead 16777216 l left left_after) (sym same) read
 
 -- a script that is longer than it may be is a fault
 pub long_fault : (bytes : List ℕ) → 16777216 < length bytes → fault_of bytes ≡ Some (record { line = 0; why = TooLong })
@@ -30,16 +32,6 @@ good_script : (found : Option ScriptFault) (lines : Option Script) (script : Scr
 good_script None lines script reading = refl
 good_script (Some fault) lines script reading = absurd (cc reading)
 
--- what a source that told all its bytes has left
-record Leaves (all bytes : List ℕ) (left_after : Option (List ℕ)) : Type 0 where
-  rest : List ℕ
-  parts : all ≡ bytes ++ rest
-  tells : left_after ≡ Some rest
-
-leaves : (all bytes : List ℕ) (left_after : Option (List ℕ)) → Some all ≡ with_front bytes left_after → Leaves all bytes left_after
-leaves all bytes None taken = absurd (cc taken)
-leaves all bytes (Some rest) taken = record { rest = rest; parts = cc; tells = refl }
-
 module _ (wanted : Option Bool) (untouched : Type 0) (source : SourceChange) (sink : SinkChange) (device : DeviceChange) where
   -- the words ask for something else
   pub usage_traced : wanted ≡ None → untouched → IsTraced wanted untouched source sink device statuses.Usage
@@ -53,7 +45,7 @@ module _ (wanted : Option Bool) (untouched : Type 0) (source : SourceChange) (si
   pub memory_traced : untouched → IsTraced wanted untouched source sink device statuses.NoMemory
   memory_traced same = record { ends = tt; asked = inl same; complete = λ all tells good journal some a b c. inr refl }
 
-  module _ (bytes : List ℕ) (journal : Bool) (read : HasRead bytes source.left source.left_after) (words : wanted ≡ Some journal) where
+  module _ (bytes : List ℕ) (journal : Bool) (read : HasRead 16777216 bytes source.left source.left_after) (words : wanted ≡ Some journal) where
     abbrev what : IsRead wanted source
     what = record { bytes = bytes; read = read; journal = journal; words = words }
 

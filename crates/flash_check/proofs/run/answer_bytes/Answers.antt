@@ -1,5 +1,5 @@
 use Rattle.std.proofs.Common.{ℕ, List, ◌∙◌, subst}
-use Rattle.flash_check.specs.Ends.{IsWritten}
+use Rattle.flash_streams.specs.Writing.{IsWritten}
 use Rattle.flash_check.proofs.Answering.{is_one, writes, said}
 use Rattle.flash_check.proofs.run.answer_bytes.Goals as goal
 

@@ -2,4 +2,12 @@ use Rattle.flash_trace.proofs.Answering.Right.{every_play}
 use Rattle.flash_trace.proofs.laws.every_play_is_right.Goals as goal
 
 pub returns : goal.returns
-returns c = every_play
+returns c = every_play record {
+  store = c.each_store_goes_on.ensures;
+  lookup = c.each_lookup_goes_on.ensures;
+  clock = c.each_clock_goes_on.ensures;
+  room = c.each_room_goes_on.ensures;
+  reaping = c.each_reaping_goes_on.ensures;
+  juggling = c.each_juggling_goes_on.ensures;
+  none = c.no_items_are_listed.ensures;
+}

@@ -1,11 +1,22 @@
-use Rattle.std.proofs.Common.{ℕ, List, Option, Some, Ok, slice_range, option_map, sym, ◌∙◌, ap, arith}
+use Rattle.std.proofs.Common.{ℕ, length, List, Option, Some, Ok, slice_range, option_map, sym, ◌∙◌, ap, arith}
 use Rattle.std.specs.Option.{ok_or}
 use Rattle.flash_trace.specs.declared.fault.Why.TheVariants.{BadNumber}
 use Rattle.flash_trace.specs.declared.step.SessionNumber.{SessionNumber}
 use Rattle.flash_trace.specs.Steps.{Say}
 use Rattle.flash_trace.proofs.Scripts.Words.{end_length, end_between}
-use Rattle.flash_trace.proofs.Scripts.StepWords.{ends_line, say_is, clock_is, run_is}
+use Rattle.flash_trace.proofs.Scripts.StepWords.{ends_line, say_is, clock_is, run_is, one_word_is, match_read}
+use Rattle.flash_trace.specs.Scripts.{step_of}
 use Rattle.flash_trace.proofs.script.read_step.Goals as goal
+
+-- a line of one word
+pub returns-in_default-rest-clause-read : goal.returns-in_default-rest-clause-read
+returns-in_default-rest-clause-read c =
+    let line = slice_range c.args.bytes.now c.args.start c.args.end in
+    let is = one_word_is line c.split_word.result.0.now c.split_word.result.1 c.split_word.ensures c.in_default-rest.is c.in-Some.word (sym c.step_word.ensures ∙ c.in-Some.is) in
+    match_read c.args.bytes.now c.step_of_one_word.result (step_of line) (c.step_of_one_word.ensures.read c.args.bytes.now ∙ sym is)
+
+pub returns-in_default-rest-clause-within : goal.returns-in_default-rest-clause-within
+returns-in_default-rest-clause-within c = c.step_of_one_word.ensures.within (length c.args.bytes.now)
 
 -- a reading of the clock with a word too many
 pub returns-in_default-2-clause-read : goal.returns-in_default-2-clause-read

@@ -1,6 +1,7 @@
 use Rattle.std.proofs.Common.{◌≡◌, ◌+◌, ◌-◌, ◌≤◌, ◌++◌, length, drop, vec_len, map, option_map}
 use Rattle.flash_trace.specs.CodeScripts.{step_meant, AreWithin}
-use Rattle.flash_trace.specs.Scripts.{lines_of, steps_of, fault_from}
+use Rattle.flash_streams.specs.Lines.{lines_of}
+use Rattle.flash_trace.specs.Scripts.{steps_of, fault_from}
 use Rattle.flash_trace.proofs.script.read_steps.Given as goal
 
 -- no line so far is bad, their steps are these, and the lines that are left have the rest of the faults and steps

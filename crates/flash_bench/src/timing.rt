@@ -1,0 +1,7 @@
+use std::io;
+use std::time::Instant;
+
+/// The nanoseconds since the start.
+pub fn nanos_since(rt: &HostRuntime, start: Instant) -> io::Result<u64> {
+    Ok(u64::try_from(start.elapsed(rt)?.as_nanos()).unwrap_or(u64::MAX))
+}

@@ -1,0 +1,9 @@
+pub mod Known
+pub mod KeyLists
+pub mod KeyEnds
+pub mod KeyJuggle
+pub mod Listed
+pub mod IndexState
+pub mod Codes
+pub mod Seen
+pub mod Laws

@@ -1,0 +1,5 @@
+mod FlagRanges
+mod KeyLemmas
+mod Letters
+mod MetaRead
+mod Order

@@ -1,0 +1,9 @@
+pub mod Fields
+pub mod Form
+pub mod Keys
+pub mod LineLaws
+pub mod Lines
+pub mod Numbers
+pub mod Reading
+pub mod Said
+pub mod Words
