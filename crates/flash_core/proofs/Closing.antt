@@ -1,12 +1,13 @@
 -- A store is sound after a call that keeps what it has to keep.
 use Rattle.std.proofs.Common.{◌≡◌, ℕ, List, ◌++◌, Option, None, Some, refl, sym, subst}
+use Rattle.std.specs.Option.{ForSome}
 use Rattle.flash_names.specs.Told.{with_more}
 use Rattle.flash_names.specs.declared.geometry.Geometry.{Geometry}
 use Rattle.flash_entry.specs.declared.entry.Entry.{Entry}
 use Rattle.flash_machine.specs.Cache.{Cache}
 use Rattle.flash_index.specs.Listed.{IsListed}
 use Rattle.flash_core.specs.Laws.{IsRunning, LeavesARun}
-use Rattle.flash_core.specs.Sound.{IsRun, IsToldRun, IsSound}
+use Rattle.flash_core.specs.Sound.{IsRun, IsToldRun, IsUnopened, IsSound}
 use Rattle.flash_core.specs.Store.{Desk, Call}
 use Rattle.flash_core.proofs.Kept.{Keeps}
 
@@ -18,11 +19,19 @@ module _ {A : Type 0} (g : Geometry) (c : Cache) (desk : Desk) (call : Call A) w
   abbrev pub GoesOn : Option (List Entry) → Type 0
   GoesOn told = (h : List Entry) → told ≡ Some h → IsRunning g h c desk → LeavesARun g h call
 
-  told_run : (told : Option (List Entry)) → IsListed c.items desk.lists → IsToldRun g c told → GoesOn told → IsToldRun g call.cache (with_more call.entries told)
-  told_run None listed run goes = λ j told. absurd (cc told)
-  told_run (Some h) listed run goes = λ j told.
-      let one : h ++ call.entries ≡ j = cc told in
-      subst (λ (k : List Entry). IsRun g call.cache k) one (goes h refl (record { run = run h refl; listed = listed })).run
+  -- what is known of a journal that goes on
+  record Tells (told : Option (List Entry)) : Type 0 where
+    run : IsToldRun g call.cache told
+    unopened : ForSome told IsUnopened
+
+  tells : (told : Option (List Entry)) → IsListed c.items desk.lists → IsToldRun g c told → ForSome told IsUnopened → GoesOn told → Tells (with_more call.entries told)
+  tells None listed run unopened goes = record { run = λ j told. absurd (cc told); unopened = λ j told. absurd (cc told) }
+  tells (Some h) listed run unopened goes =
+      let more = goes h refl (record { run = run h refl; listed = listed; unopened = unopened h refl }) in
+      record {
+        run = λ j told. let one : h ++ call.entries ≡ j = cc told in subst (λ (k : List Entry). IsRun g call.cache k) one more.run;
+        unopened = λ j told. let one : h ++ call.entries ≡ j = cc told in subst IsUnopened one more.unopened;
+      }
 
   pub sound_after : (memory memory2 : ℕ) (c2 : Cache) (told told2 : Option (List Entry)) → IsSound g memory c told → IsListed c.items desk.lists → GoesOn told
       → c2 ≡ call.cache → told2 ≡ with_more call.entries told → memory2 ≡ memory → Keeps g.item_max call.cache → IsSound g memory2 c2 told2
@@ -36,5 +45,6 @@ module _ {A : Type 0} (g : Geometry) (c : Cache) (desk : Desk) (call : Call A) w
         own_numbers = keeps.apart;
         within = keeps.within;
         shares = was.shares;
-        run = told_run told listed was.run goes;
+        run = (tells told listed was.run was.unopened goes).run;
+        unopened = (tells told listed was.run was.unopened goes).unopened;
       })))

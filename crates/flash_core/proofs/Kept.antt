@@ -1,6 +1,6 @@
 -- What a store keeps of its items stays so after each call.
-use Rattle.std.proofs.Common.{◌≡◌, ℕ, ◌+◌, ◌^◌, ◌<◌, ◌≤◌, Bool, true, false, List, length, Option, None, Some, if◌then◌else◌, refl, sym, ◌∙◌, ap, subst, arith}
-use Rattle.std.specs.Prelude.{nat_lt, nat_le}
+use Rattle.std.proofs.Common.{◌≡◌, ℕ, ◌+◌, ◌^◌, ◌≤◌, Bool, true, false, List, length, Option, None, Some, if◌then◌else◌, refl, sym, subst, arith}
+use Rattle.std.specs.Prelude.{max, nat_lt, nat_le}
 use Rattle.std.specs.Option.{option_or}
 use Rattle.std.specs.FinMap as finite
 use Rattle.std.proofs.lemmas.Bool.Decides.{nat_tests}
@@ -21,7 +21,7 @@ use Rattle.flash_machine.specs.Storing.{mode_fails, compare_refusal, size_refusa
 use Rattle.flash_machine.specs.Looking.{deadline_after, fetched_item, look_next}
 use Rattle.flash_core.specs.Calls.{store_call, look_call, drop_if}
 use Rattle.flash_core.specs.Items.{HasDeadline, IsKey, IsKept, AreKept}
-use Rattle.flash_core.specs.Store.{Desk, Call}
+use Rattle.flash_core.specs.Store.{Desk}
 use Rattle.flash_core.specs.Sweeps.{is_expired_at, sweep_step, sweep}
 use Rattle.flash_core.proofs.Keeping.{kept-removed, kept-inserted, apart-removed, apart-inserted, alone_above, alone_own}
 
@@ -31,7 +31,7 @@ pub record Keeps (item_max : ℕ) (c : Cache) : Type 0 where
   pub apart : AreApart c.items
   pub within : c.now ≤ last_moment
 
-without : (item_max : ℕ) (c : Cache) (k : List ℕ) → Keeps item_max c → Keeps item_max (record c { items = finite.remove c.items k })
+pub without : (item_max : ℕ) (c : Cache) (k : List ℕ) → Keeps item_max c → Keeps item_max (record c { items = finite.remove c.items k })
 without item_max c k keeps = record {
   kept = kept-removed item_max c.last_cas c.items k keeps.kept;
   apart = apart-removed c.items k keeps.apart;
@@ -104,7 +104,7 @@ module _ (g : Geometry) (c : Cache) (put : Put) where
         some = omega (arith, is.0);
         number = omega (arith, is.0);
         deadline = stored_deadline put.mode live put_at was;
-        size = subst (λ (v : List ℕ). length v ≤ g.item_max) (sym value) fits;
+        size = subst (λ (v : List ℕ). length v ≤ max g.item_max 20) (sym value) (omega (arith, fits));
         here = is.1;
       }
 

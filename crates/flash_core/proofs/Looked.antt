@@ -1,11 +1,11 @@
 -- What a lookup leaves.
-use Rattle.std.proofs.Common.{◌≡◌, ℕ, Bool, true, false, List, [], ◌∷◌, ◌++◌, Option, None, Some, refl, sym, ◌∙◌, ap, subst}
+use Rattle.std.proofs.Common.{◌≡◌, ℕ, Bool, true, List, [], ◌∷◌, ◌++◌, Option, None, Some, refl, sym, ap, subst}
 use Rattle.std.specs.FinMap as finite
 use Rattle.flash_names.specs.declared.place.Id.{Id}
 use Rattle.flash_entry.specs.declared.ask.Look.{Look}
 use Rattle.flash_entry.specs.declared.entry.Entry.TheVariants as entries
 use Rattle.flash_machine.specs.Item.{Item}
-use Rattle.flash_machine.specs.Cache.{Cache, Items}
+use Rattle.flash_machine.specs.Cache.{Cache}
 use Rattle.flash_machine.specs.Looking.{residence_of, look_next}
 use Rattle.flash_index.specs.IndexState.{IndexState}
 use Rattle.flash_index.specs.KeyLists.{KeyLists}
@@ -16,10 +16,10 @@ use Rattle.flash_core.specs.declared.sought.Sought.TheVariants.{Absent, Expired,
 use Rattle.flash_core.specs.Calls.{found_of, look_after_sweep, look_call, desk_after_look}
 use Rattle.flash_core.specs.Changes.{items_after_look, with_found, lists_after_look}
 use Rattle.flash_core.specs.Numbers.{cache_of_items}
-use Rattle.flash_core.specs.Sought.{IsSought, is_expired, live_of, id_sought}
+use Rattle.flash_core.specs.Sought.{IsSought, is_expired, live_of}
 use Rattle.flash_core.specs.Store.{Desk, Call}
 use Rattle.flash_core.specs.Sweeps.{entries_of_sweep, sweep_step}
-use Rattle.flash_core.proofs.Maps.{gone}
+use Rattle.flash_index.proofs.Lookups.{cut_here}
 
 module _ (s : IndexState) (numbers : Numbers) (lists : KeyLists) (id : Id) (key : List ℕ) (look : Look) where
   abbrev first : Cache
@@ -56,7 +56,7 @@ module _ (s : IndexState) (numbers : Numbers) (lists : KeyLists) (id : Id) (key 
         entries_are = ap (λ (l : Option Item). entries.Looked id key look (residence_of l) ∷ []) (sym none);
       }
   after_sought (Expired i) is =
-      let none = gone s.items key in
+      let none = cut_here s.items key in
       let c = sweep_step first desk key true in
       record {
         answer_is = ap (found_of c.cache look) (sym none);

@@ -1,26 +1,17 @@
 -- A cache's items with one put in or taken out, by what is found under each key.
-use Rattle.std.proofs.Common.{◌≡◌, ◌⊎◌, ℕ, Bool, true, false, List, Option, None, Some, cond, inl, inr, refl, sym, ◌∙◌, ap, subst}
+use Rattle.std.proofs.Common.{◌≡◌, ◌⊎◌, ℕ, Bool, true, false, List, Option, None, Some, cond, inl, inr, refl, sym, ◌∙◌, ap}
 use Rattle.std.specs.Cmp.Lexicographic.{nat_list_cmp_total}
 use Rattle.std.specs.FinMap as finite
-use Rattle.std.specs.FinMap.{nat_cmp-IsAntisymmetric, slice_cmp-IsAntisymmetric}
 use Rattle.std.specs.Str.{bytes_eq}
 use Rattle.flash_machine.specs.Item.{Item}
 use Rattle.flash_machine.specs.Cache.{Items}
-use Rattle.flash_core.proofs.Keys.{same_key, bytes_eq-refl, tied}
-
--- two maps that have the same under each key are one
-pub same_items : (m n : Items) → ((q : List ℕ) → finite.get m q ≡ finite.get n q) → m ≡ n
-same_items m n same = finite.same_map nat_list_cmp_total (slice_cmp-IsAntisymmetric nat_cmp-IsAntisymmetric) m n same
+use Rattle.flash_index.proofs.Lookups.{same_key, tied, same_by_keys}
 
 pub get-inserted : (m : Items) (k : List ℕ) (v : Item) (q : List ℕ) → finite.get (finite.insert m k v) q ≡ cond (bytes_eq q k) (Some v) (finite.get m q)
 get-inserted m k v q = finite.get-insert nat_list_cmp_total m k v q ∙ ap (λ b. cond b (Some v) (finite.get m q)) (tied q k)
 
 pub get-removed : (m : Items) (k q : List ℕ) → finite.get (finite.remove m k) q ≡ cond (bytes_eq q k) None (finite.get m q)
 get-removed m k q = finite.get-remove nat_list_cmp_total m k q ∙ ap (λ b. cond b None (finite.get m q)) (tied q k)
-
--- nothing is under a key that was taken out
-pub gone : (m : Items) (k : List ℕ) → finite.get (finite.remove m k) k ≡ None
-gone m k = get-removed m k k ∙ ap (λ b. cond b None (finite.get m k)) (bytes_eq-refl k)
 
 -- what is under a key after a removal was there before
 kept_by : (b : Bool) (found : Option Item) (item : Item) → cond b None found ≡ Some item → found ≡ Some item
@@ -47,6 +38,6 @@ twice true v found = refl
 twice false v found = refl
 
 pub insert-removed : (m : Items) (k : List ℕ) (v : Item) → finite.insert (finite.remove m k) k v ≡ finite.insert m k v
-insert-removed m k v = same_items (finite.insert (finite.remove m k) k v) (finite.insert m k v) (λ q.
+insert-removed m k v = same_by_keys (finite.insert (finite.remove m k) k v) (finite.insert m k v) (λ q.
     get-inserted (finite.remove m k) k v q ∙ ap (cond (bytes_eq q k) (Some v)) (get-removed m k q)
     ∙ twice (bytes_eq q k) v (finite.get m q) ∙ sym (get-inserted m k v q))

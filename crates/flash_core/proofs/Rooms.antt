@@ -1,5 +1,5 @@
 -- What keeps a store within its memory is legal.
-use Rattle.std.proofs.Common.{◌≡◌, ℕ, Bool, true, false, List, [], ◌∷◌, Option, None, Some, if◌then◌else◌, refl, sym, ◌∙◌, ap, subst}
+use Rattle.std.proofs.Common.{◌≡◌, ℕ, Bool, true, false, List, Option, None, Some, if◌then◌else◌, refl, sym, subst}
 use Rattle.std.specs.Prelude.{nat_lt, IsSome}
 use Rattle.std.specs.Option.{option_or}
 use Rattle.std.specs.FinMap as finite
@@ -15,7 +15,6 @@ use Rattle.flash_machine.specs.Rules.{drop_rules}
 use Rattle.flash_machine.specs.Legal.{AllHold, Meets}
 use Rattle.flash_machine.proofs.Meeting.{dead_meets}
 use Rattle.flash_index.specs.KeyEnds.{last_key, last_out}
-use Rattle.flash_index.specs.KeyLists.{KeyLists}
 use Rattle.flash_index.specs.Laws.{EachLastHasAnItem}
 use Rattle.flash_index.specs.Listed.{IsListed}
 use Rattle.flash_core.specs.Calls.{drop_if, if_expired, expired_last, room_call, reap_call}

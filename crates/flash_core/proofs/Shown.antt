@@ -1,5 +1,6 @@
 -- What is told of an item that is found.
-use Rattle.std.proofs.Common.{◌≡◌, ℕ, ◌^◌, ◌<◌, ◌≤◌, true, false, List, length, Option, None, Some, refl, sym, ◌∙◌, ap, subst, arith}
+use Rattle.std.proofs.Common.{◌≡◌, ℕ, ◌≤◌, true, false, List, length, Option, None, Some, refl, sym, ◌∙◌, ap, subst, arith}
+use Rattle.std.specs.Prelude.{max}
 use Rattle.flash_entry.specs.declared.ask.Look.{Look}
 use Rattle.flash_entry.specs.declared.found.Head.{Head}
 use Rattle.flash_items.specs.declared.item.Body.{Body}
@@ -39,5 +40,5 @@ live_is_there key sought item parts one is at = live_there sought item (known_pa
 
 pub is_shown : (item_max last : ℕ) (key : List ℕ) (parts : Parts) → IsKept item_max last key (known_parts (length key) parts) → item_max ≤ 1047552 → IsShown parts
 is_shown item_max last key parts kept bound =
-    let size : length (known_value 0 parts.body) ≤ item_max = subst (λ (v : List ℕ). length v ≤ item_max) (same_value (length key) 0 parts.body kept.here) kept.size in
+    let size : length (known_value 0 parts.body) ≤ max item_max 20 = subst (λ (v : List ℕ). length v ≤ max item_max 20) (same_value (length key) 0 parts.body kept.here) kept.size in
     record { deadline = kept.deadline; here = kept.here; size = omega (arith, size, bound) }

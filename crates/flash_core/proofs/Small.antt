@@ -1,5 +1,5 @@
 -- A value that fits is small.
-use Rattle.std.proofs.Common.{ℕ, ◌^◌, ◌<◌, ◌≤◌, length, arith}
+use Rattle.std.proofs.Common.{ℕ, ◌≤◌, length, arith}
 use Rattle.flash_items.specs.declared.item.Body.{Body}
 use Rattle.flash_items.specs.declared.item.Body.TheVariants.{Here, Away}
 use Rattle.flash_items.specs.Item.{IsSmall}

@@ -17,7 +17,7 @@ use Rattle.flash_machine.specs.Cache.{Cache, Items}
 use Rattle.flash_machine.specs.Load.{item_load}
 use Rattle.flash_machine.specs.Storing.{refusal, stored_item, store_outcome, store_step}
 use Rattle.flash_index.specs.Known.{known_item}
-use Rattle.flash_index.specs.KeyLists.{KeyLists, idle, put_front, moved, removed}
+use Rattle.flash_index.specs.KeyLists.{KeyLists, idle, put_front, moved}
 use Rattle.flash_core.specs.declared.numbers.Numbers.{Numbers}
 use Rattle.flash_core.specs.Calls.{store_after_sweep, store_call, desk_after_store}
 use Rattle.flash_core.specs.Changes.{swept_items, items_after_store, lists_after_store}

@@ -15,7 +15,7 @@ use Rattle.flash_machine.proofs.Meeting.{dead_meets}
 use Rattle.flash_core.specs.Laws.{IsHere}
 use Rattle.flash_core.specs.Store.{Desk, Call}
 use Rattle.flash_core.specs.Sweeps.{is_expired_at, sweep_step, sweep}
-use Rattle.flash_core.proofs.Maps.{gone}
+use Rattle.flash_index.proofs.Lookups.{cut_here}
 use Rattle.flash_core.proofs.Told.{Goes}
 use Rattle.flash_core.proofs.News.{new_behind}
 
@@ -35,7 +35,7 @@ module _ (c : Cache) (desk : Desk) (key : List ℕ) where
 
   live_by : (j : List Entry) (found : Option Item) (dead : Bool) → finite.get c.items key ≡ found → is_expired_at c found ≡ dead → IsHere c key
       → live_item j (sweep_step c desk key dead).cache key ≡ finite.get (sweep_step c desk key dead).cache.items key
-  live_by j found true here is plain = ap (passing_item (is_live j (sweep_step c desk key true).cache)) (gone c.items key) ∙ sym (gone c.items key)
+  live_by j found true here is plain = ap (passing_item (is_live j (sweep_step c desk key true).cache)) (cut_here c.items key) ∙ sym (cut_here c.items key)
   live_by j None false here is plain = ap (passing_item (is_live j c)) here ∙ sym here
   live_by j (Some item) false here is plain =
       ap (passing_item (is_live j c)) here ∙ live_step j item false None is refl (plain item here) refl ∙ sym here

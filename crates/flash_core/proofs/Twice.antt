@@ -1,6 +1,5 @@
 -- A key that was taken out of the lists isn't taken out again.
-use Rattle.std.proofs.Common.{◌≡◌, ℕ, Bool, true, false, not, List, [], ◌∷◌, cond, refl, sym, ◌∙◌, ap}
-use Rattle.std.specs.Prelude.{filter}
+use Rattle.std.proofs.Common.{◌≡◌, ℕ, Bool, true, false, not, List, [], ◌∷◌, cond, refl, ◌∙◌, ap}
 use Rattle.flash_index.specs.KeyLists.{KeyCard, KeyLists, is_of, without, removed}
 
 module _ (key : List ℕ) where

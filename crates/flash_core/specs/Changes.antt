@@ -1,7 +1,9 @@
 -- What the parts of a call make of the index.
-use Rattle.std.specs.Prelude.{◌≡◌, ℕ, ℤ, Bool, true, List, [], ◌∷◌, Option, None, Some, if◌then◌else◌}
+use Rattle.std.specs.Prelude.{◌≡◌, ℕ, ℤ, Bool, true, false, List, [], ◌∷◌, Option, None, Some, if◌then◌else◌}
 use Rattle.std.specs.FinMap.{get, insert, remove}
 use Rattle.flash_names.specs.Told.{with_more}
+use Rattle.flash_entry.specs.declared.answer.Gone.{Gone}
+use Rattle.flash_entry.specs.declared.answer.Gone.TheVariants as gone
 use Rattle.flash_entry.specs.declared.entry.DropCause.{DropCause}
 use Rattle.flash_entry.specs.declared.entry.Entry.{Entry}
 use Rattle.flash_entry.specs.declared.entry.Entry.TheVariants as entries
@@ -16,6 +18,7 @@ use Rattle.flash_index.specs.IndexState.{IndexState}
 use Rattle.flash_index.specs.KeyLists.{KeyLists, moved, removed, touched}
 use Rattle.flash_core.specs.declared.sought.Sought.{Sought}
 use Rattle.flash_core.specs.declared.sought.Sought.TheVariants.{Absent, Expired, Live}
+use Rattle.flash_core.specs.Sought.{is_expired}
 
 -- the items without the key's, where it is dead
 abbrev pub swept_items : Bool → List ℕ → Items → Items
@@ -91,4 +94,35 @@ pub record HasDropped (cause : DropCause) (key : Option (List ℕ)) (told told_a
   pub noted : told_after ≡ with_more (entries_of_drop cause key) told
   pub items : new.items ≡ items_without key old.items
   pub lists : new.lists ≡ lists_without key old.lists
+  pub memory : new.memory ≡ old.memory
+
+-- whether the key's item goes: it is dead, or it is live and was deleted
+abbrev pub is_going : Sought → Gone → Bool
+is_going Absent answer = false
+is_going (Expired id) answer = true
+is_going (Live id) gone.Deleted = true
+is_going (Live id) gone.NotFound = false
+is_going (Live id) gone.Exists = false
+
+-- what is left of the index where the key's item goes, or doesn't
+pub record HasSwept (key : List ℕ) (goes : Bool) (old new : IndexState) : Type 0 where
+  pub items : new.items ≡ swept_items goes key old.items
+  pub lists : new.lists ≡ swept_lists goes key old.lists
+  pub memory : new.memory ≡ old.memory
+
+-- the items with this deadline of the key's
+abbrev pub with_renewed : Option ℕ → List ℕ → Option Item → Items → Items
+with_renewed deadline key None items = items
+with_renewed deadline key (Some item) items = insert items key (record item { deadline = deadline })
+
+-- the items after a touch: a dead one is dropped, and a live one has the deadline
+abbrev pub items_after_touch : Option ℕ → List ℕ → Sought → Items → Items
+items_after_touch deadline key Absent items = items
+items_after_touch deadline key (Expired id) items = remove items key
+items_after_touch deadline key (Live id) items = with_renewed deadline key (get items key) items
+
+-- what a touch leaves of the index
+pub record HasTouched (deadline : Option ℕ) (key : List ℕ) (sought : Sought) (old new : IndexState) : Type 0 where
+  pub items : new.items ≡ items_after_touch deadline key sought old.items
+  pub lists : new.lists ≡ swept_lists (is_expired sought) key old.lists
   pub memory : new.memory ≡ old.memory

@@ -1,5 +1,5 @@
 -- What a store keeps of each of its items.
-use Rattle.std.specs.Prelude.{◌≡◌, ℕ, ◌^◌, ◌<◌, ◌≤◌, List, length, Option, None, Some, IfSome, option_map}
+use Rattle.std.specs.Prelude.{◌≡◌, ℕ, ◌^◌, ◌<◌, ◌≤◌, List, length, max, Option, None, Some, IfSome, option_map}
 use Rattle.std.specs.FinMap.{get}
 use Rattle.flash_items.specs.declared.item.Parts.{Parts}
 use Rattle.flash_machine.specs.Item.{Item}
@@ -16,13 +16,13 @@ pub record IsKey (key : List ℕ) : Type 0 where
   pub fits : length key ≤ 250
 
 -- a key's item has a CAS number from 1 up to the last one, a deadline below 2^63, and a value that is in memory and no
--- longer than it may be
+-- longer than it may be, or than the digits of a number
 pub record IsKept (item_max last : ℕ) (key : List ℕ) (item : Item) : Type 0 where
   pub named : IsKey key
   pub some : 1 ≤ item.cas
   pub number : item.cas ≤ last
   pub deadline : HasDeadline item.deadline
-  pub size : length item.value ≤ item_max
+  pub size : length item.value ≤ max item_max 20
   pub here : item.label ≡ None
 
 -- each item is kept so

@@ -1,11 +1,13 @@
 pub mod Store
 pub mod Sweeps
 pub mod Calls
+pub mod CommandCalls
 pub mod Numbers
 pub mod Items
 pub mod Sought
 pub mod Changes
 pub mod Choice
+pub mod Counting
 pub mod Open
 pub mod Sound
 pub mod Laws

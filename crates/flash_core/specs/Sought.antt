@@ -4,7 +4,7 @@ use Rattle.std.specs.FinMap.{get}
 use Rattle.flash_names.specs.declared.place.ItemId.{ItemId}
 use Rattle.flash_machine.specs.Item.{Item}
 use Rattle.flash_machine.specs.Cache.{Cache}
-use Rattle.flash_index.specs.IndexState.{IndexState, Names}
+use Rattle.flash_index.specs.IndexState.{IndexState}
 use Rattle.flash_core.specs.declared.sought.Sought.{Sought}
 use Rattle.flash_core.specs.declared.sought.Sought.TheVariants.{Absent, Expired, Live}
 use Rattle.flash_core.specs.Sweeps.{is_expired_at}

@@ -1,10 +1,12 @@
 -- What a store keeps, whatever is done with it.
 use Rattle.std.specs.Prelude.{◌≡◌, ℕ, ◌≤◌, List, Option}
 use Rattle.std.specs.Option.{ForSome}
+use Rattle.std.specs.List.{AllByRecursion}
 use Rattle.flash_names.specs.declared.place.Id.{Id}
 use Rattle.flash_names.specs.declared.geometry.Geometry.{Geometry}
 use Rattle.flash_names.specs.Geometry.{Passes}
 use Rattle.flash_entry.specs.declared.entry.Entry.{Entry}
+use Rattle.flash_entry.specs.declared.entry.Entry.TheVariants as entries
 use Rattle.flash_machine.specs.Cache.{Cache}
 use Rattle.flash_machine.specs.Moments.{last_moment}
 use Rattle.flash_machine.specs.Steps.{cache_of}
@@ -26,8 +28,18 @@ IsToldRun g c told = ForSome told (IsRun g c)
 abbrev pub IsNewTold : Option (List Entry) → Id → Type 0
 IsNewTold told id = ForSome told (λ h. IsNew h id)
 
+-- the entry neither opens a page nor frees one
+abbrev pub LeavesPages : Entry → Type 0
+LeavesPages (entries.Opened label) = ⊥
+LeavesPages (entries.Freed label) = ⊥
+LeavesPages _ = Unit {0}
+
+-- no page was opened
+abbrev pub IsUnopened : List Entry → Type 0
+IsUnopened h = AllByRecursion LeavesPages h
+
 -- whatever is done with it, a store has a geometry that keeps its rules, items with CAS numbers of their own, three
--- lists with their shares of the geometry's memory, and a journal that is a run
+-- lists with their shares of the geometry's memory, and a journal that is a run in which no page was opened
 pub record IsSound (g : Geometry) (memory : ℕ) (c : Cache) (told : Option (List Entry)) : Type 0 where
   pub passes : Passes g
   pub kept : AreKept g.item_max c.last_cas c.items
@@ -35,3 +47,4 @@ pub record IsSound (g : Geometry) (memory : ℕ) (c : Cache) (told : Option (Lis
   pub within : c.now ≤ last_moment
   pub shares : memory ≡ g.memory
   pub run : IsToldRun g c told
+  pub unopened : ForSome told IsUnopened

@@ -15,8 +15,8 @@ use flash_items::{Body, Item, Parts};
 use flash_names::{Blob, Geometry};
 use std::alloc::{AllocError, Global};
 
-// The last CAS number that is given out.
-const LAST_NUMBER: u64 = 1 << 63;
+/// The last CAS number that is given out.
+pub const LAST_NUMBER: u64 = 1 << 63;
 
 // Seconds up to which an exptime counts from now: thirty days.
 const THIRTY_DAYS: u64 = 2_592_000;

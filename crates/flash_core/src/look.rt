@@ -105,8 +105,8 @@ fn head_of(moment: u64, parts: &Parts, size: u32, renew: Option<i64>) -> Head
     }
 }
 
-// A deadline below 2^63 stays below it where it is renewed. It does nothing.
-fn renewal_is_below(renew: Option<i64>, moment: u64)
+/// A deadline below 2^63 stays below it where it is renewed. It does nothing.
+pub fn renewal_is_below(renew: Option<i64>, moment: u64)
     requires { moment ≤ 2 ^ 62 }
     ensures { (was : Option ℕ) → HasDeadline was → HasDeadline (deadline_after renew was moment) }
 {
@@ -115,8 +115,8 @@ fn renewal_is_below(renew: Option<i64>, moment: u64)
     }
 }
 
-// The deadline that an item has after it was found.
-fn renewed_at(moment: u64, deadline: Option<u64>, renew: Option<i64>) -> Option<u64>
+/// The deadline that an item has after it was found.
+pub fn renewed_at(moment: u64, deadline: Option<u64>, renew: Option<i64>) -> Option<u64>
     requires moment { moment ≤ 2 ^ 62 }
     requires below { HasDeadline deadline }
     ensures exact { result ≡ deadline_after renew deadline moment }
@@ -128,8 +128,8 @@ fn renewed_at(moment: u64, deadline: Option<u64>, renew: Option<i64>) -> Option<
     }
 }
 
-// The seconds that are left to a deadline, 0 where it was reached, and -1 where there is none.
-fn left_of(deadline: Option<u64>, moment: u64) -> i64
+/// The seconds that are left to a deadline, 0 where it was reached, and -1 where there is none.
+pub fn left_of(deadline: Option<u64>, moment: u64) -> i64
     requires { ForSome deadline (λ d. d < 2 ^ 63) }
     ensures { result ≡ left_to deadline moment }
 {

@@ -50,8 +50,8 @@ impl<J: Journal> Core<J> {
     }
 }
 
-// Puts the item that is stored, if one is, and else drops a dead one.
-fn put_or_drop(index: &mut Index, sought: Sought, item: Option<Item>)
+/// Puts the item that is stored, if one is, and else drops a dead one.
+pub fn put_or_drop(index: &mut Index, sought: Sought, item: Option<Item>)
     requires id { (id : ids.ItemId) → id_sought sought ≡ Some id → HasId index.old id }
     requires room { 1 ≤ index.old.spare }
     requires key { ForSome item

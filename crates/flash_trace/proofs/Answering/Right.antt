@@ -242,7 +242,7 @@ module _ (laws : StoreLaws) (g : Geometry) where
   pub first_holds : Holds g first_play 0 (λ session. []) (λ session. [])
   first_holds = record {
     moment = refl;
-    kept = record { running = record { run = record { legal = tt; same = refl }; listed = first_listed }; here = first_here };
+    kept = record { running = record { run = record { legal = tt; same = refl }; listed = first_listed; unopened = tt }; here = first_here };
     sixteen = refl;
     numbered = first_numbered;
     each = λ session is. subst (IsUpTo g session [] [] []) (sym (nobody 16 (session - 1))) (first_up g session);

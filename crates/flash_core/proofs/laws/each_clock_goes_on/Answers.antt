@@ -1,9 +1,9 @@
-use Rattle.std.proofs.Common.{◌≡◌, ◌^◌, ◌≤◌, Bool, true, false, refl, arith}
-use Rattle.std.specs.Prelude.{min, nat_lt, ℕ}
-use Rattle.flash_machine.specs.Cache.{Cache}
+use Rattle.std.proofs.Common.{◌^◌, ◌≤◌, arith}
+use Rattle.std.specs.Prelude.{min}
 use Rattle.flash_core.specs.Calls.{clock_call}
 use Rattle.flash_core.proofs.Clocked.{clock_goes, clock_listed}
 use Rattle.flash_core.proofs.Told.{run_goes_on}
+use Rattle.flash_core.proofs.Unopened.{unopened_behind, clock_unopened}
 use Rattle.flash_core.proofs.laws.each_clock_goes_on.Goals as goal
 
 pub returns : goal.returns
@@ -13,4 +13,5 @@ returns c = λ g cache h desk reading is.
     record {
       run = run_goes_on g h cache call.cache call.entries is.run (clock_goes g h cache desk (min reading (2 ^ 62)) within);
       listed = clock_listed cache desk (min reading (2 ^ 62)) is.listed;
+      unopened = unopened_behind h call.entries is.unopened (clock_unopened cache desk (min reading (2 ^ 62)));
     }

@@ -1,12 +1,11 @@
-use Rattle.std.proofs.Common.{◌≡◌, ℕ, true, length, List, Option, Some, sym, ◌∙◌, ap, subst}
+use Rattle.std.proofs.Common.{ℕ, true, length, Option, sym, ◌∙◌, ap, subst}
 use Rattle.std.specs.Prelude.{option_map}
 use Rattle.std.specs.FinMap as map
 use Rattle.flash_names.specs.declared.place.ItemId.{ItemId}
 use Rattle.flash_machine.specs.Item.{Item}
-use Rattle.flash_machine.specs.Cache.{Items}
 use Rattle.flash_index.specs.IndexState.{IndexState, Names, HasId}
 use Rattle.flash_index.specs.Known.{known_parts}
-use Rattle.flash_index.specs.KeyLists.{KeyLists, touched}
+use Rattle.flash_index.specs.KeyLists.{touched}
 use Rattle.flash_core.specs.declared.sought.Sought.{Sought}
 use Rattle.flash_core.specs.Changes.{HasLooked, with_found}
 use Rattle.flash_core.specs.Sought.{id_sought}

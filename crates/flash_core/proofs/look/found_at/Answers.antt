@@ -1,7 +1,6 @@
-use Rattle.std.proofs.Common.{◌≡◌, ℕ, ◌^◌, ◌<◌, true, false, not, length, List, Option, refl, sym, ◌∙◌, ap, subst, rules, arith}
+use Rattle.std.proofs.Common.{◌≡◌, ℕ, ◌^◌, ◌<◌, true, false, length, List, Option, refl, sym, ◌∙◌, ap, subst, rules}
 use Rattle.std.specs.Option.{option_copied}
 use Rattle.flash_items.specs.declared.item.Parts.{Parts}
-use Rattle.flash_machine.specs.Cache.{Cache}
 use Rattle.flash_machine.specs.Item.{Item}
 use Rattle.flash_index.specs.Known.{known_parts}
 use Rattle.flash_core.specs.Calls.{found_of}

@@ -1,4 +1,4 @@
-use Rattle.std.proofs.Common.{◌≡◌, Bool, ℕ, List, Option, None, Some, sym, ◌∙◌, subst, if◌then◌else◌}
+use Rattle.std.proofs.Common.{Bool, ℕ, List, Option, None, Some, sym, ◌∙◌, subst, if◌then◌else◌}
 use Rattle.flash_index.specs.IndexState.{AreNamed}
 use Rattle.flash_index.specs.KeyEnds.{last_key}
 use Rattle.flash_index.specs.KeyLists.{list_of}

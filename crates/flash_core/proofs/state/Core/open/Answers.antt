@@ -7,7 +7,7 @@ use Rattle.flash_entry.specs.declared.entry.Entry.{Entry}
 use Rattle.flash_machine.specs.Cache.{Items, first_cache}
 use Rattle.flash_machine.specs.Item.{Item}
 use Rattle.flash_core.specs.Numbers.{cache_of_items}
-use Rattle.flash_core.specs.Sound.{IsRun, IsSound}
+use Rattle.flash_core.specs.Sound.{IsUnopened, IsRun, IsSound}
 use Rattle.flash_core.proofs.state.Core.open.Goals as goal
 
 none_there : (key : List ℕ) (item : Item) → map.get (let none : Items = map.empty in none) key ≡ Some item → ⊥
@@ -24,4 +24,5 @@ invariant_of-result g c =
       within = search rules;
       shares = refl;
       run = λ h tells. subst (λ (j : List Entry). IsRun c.args.geometry first_cache j) (sym (c.requires h tells)) (record { legal = tt; same = refl });
+      unopened = λ h tells. subst IsUnopened (sym (c.requires h tells)) tt;
     })

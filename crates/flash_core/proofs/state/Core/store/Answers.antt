@@ -1,19 +1,16 @@
-use Rattle.std.proofs.Common.{◌≡◌, ℕ, List, Option, Some, refl, sym, ◌∙◌, ap, subst, rules}
+use Rattle.std.proofs.Common.{◌≡◌, ℕ, List, sym, ◌∙◌, ap, subst, rules}
 use Rattle.std.specs.Option.{option_map, option_copied}
 use Rattle.std.specs.FinMap as map
 use Rattle.flash_names.specs.Told.{with_more}
 use Rattle.flash_names.specs.declared.place.ItemId.{ItemId}
-use Rattle.flash_items.specs.declared.item.Item.{Item}
 use Rattle.flash_machine.specs.Cache.{Items}
-use Rattle.flash_machine.specs.Item as machine
 use Rattle.flash_index.specs.IndexState.{IndexState}
-use Rattle.flash_index.specs.KeyLists.{KeyLists}
 use Rattle.flash_core.specs.Calls.{store_call}
 use Rattle.flash_core.specs.Changes.{HasStored, swept_items, items_after_store, lists_after_store}
 use Rattle.flash_core.specs.Items.{known_live}
 use Rattle.flash_core.specs.Numbers.{cache_of_items}
 use Rattle.flash_core.specs.Sound.{IsNewTold}
-use Rattle.flash_core.specs.Sought.{id_sought, is_expired}
+use Rattle.flash_core.specs.Sought.{is_expired}
 use Rattle.flash_core.specs.Store.{Desk, Store}
 use Rattle.flash_core.proofs.Closing.{keeps_of, sound_after}
 use Rattle.flash_core.proofs.Kept.{store_keeps}

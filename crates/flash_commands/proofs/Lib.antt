@@ -1,0 +1,6 @@
+pub mod Cuts
+pub mod Fronts
+pub mod Going
+pub mod Taking
+pub mod Rests
+mod Asking

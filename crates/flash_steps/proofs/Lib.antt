@@ -1,0 +1,6 @@
+mod Others
+mod Deleting
+mod Counting
+mod Flushing
+mod Refusing
+mod Numbering
