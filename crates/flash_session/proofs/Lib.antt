@@ -1,0 +1,5 @@
+mod Talking
+mod Reading
+mod Answering
+mod Feeding
+mod Asking

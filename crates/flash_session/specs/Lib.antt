@@ -1,0 +1,4 @@
+pub mod Talks
+pub mod States
+pub mod Stands
+pub mod Laws
