@@ -157,7 +157,8 @@ fn meta_front<'a>(item_max: u32, line: &'a [u8], n: usize, behind: &'a [u8]) -> 
 
 // A line of the text protocol without data: a command, or the end.
 fn plain_front(text: Text<'_>, n: usize) -> Front<'_>
-    ensures { (behind : List ℕ) → front_said (Some result) ≡ with_meaning (plain_of text.entry.verb text.entry) n behind }
+    ensures { (behind : List ℕ) → front_said (Some result)
+        ≡ with_meaning (plain_of text.entry.verb text.entry) n behind }
 {
     match text.verb {
         Verb::Quit => nothing(n, Place::AtQuit),
