@@ -3,4 +3,5 @@ pub mod Fronts
 pub mod Going
 pub mod Taking
 pub mod Rests
+mod Blocks
 mod Asking

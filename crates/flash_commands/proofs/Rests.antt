@@ -9,6 +9,7 @@ use Rattle.flash_commands.specs.declared.place.Place.TheVariants.{InLine, InSkip
 use Rattle.flash_commands.specs.Meanings.{meaning_of}
 use Rattle.flash_commands.specs.Commands.{line_limit, after_byte, cut_within, with_block, with_meaning, line_front, skip_front, front_of}
 use Rattle.flash_commands.specs.Laws.{IsEnd, BlocksAreWithin, ARestIsShort, ABlockIsAwaited}
+use Rattle.flash_commands.proofs.Blocks.{IsWithin}
 use Rattle.flash_commands.proofs.Cuts.{CutStays, cut_stays}
 
 -- what a search for a line feed says of the number of bytes
@@ -49,36 +50,35 @@ dropped zero bytes most less = omega (arith, less)
 dropped (suc k) [] most less = omega (arith, less)
 dropped (suc k) (b ∷ bytes) most less = let one = dropped k bytes most less in omega (arith, one)
 
-meaning_short : (meaning : Meaning) (n most : ℕ) (behind : List ℕ) → ((command : Command) (size : ℕ) → meaning ≡ Block command size → size ≤ most) → with_meaning meaning n behind ≡ Rest
-    → length behind < most + 2
-meaning_short (Plain command) n most behind within rest = absurd (cc rest)
-meaning_short (Block command size) n most behind within rest =
+meaning_short : (meaning : Meaning) (n item_max : ℕ) (behind : List ℕ) → IsWithin item_max meaning → with_meaning meaning n behind ≡ Rest → length behind < item_max + 2
+meaning_short (Plain command) n item_max behind within rest = absurd (cc rest)
+meaning_short (Block command size) n item_max behind within rest =
     let size_within = within command size refl in
     let less = dropped size behind 2 (end_short command n size (take size behind) (drop size behind) rest) in
     omega (arith, size_within, less)
-meaning_short (Skips refusal skip) n most behind within rest = absurd (cc rest)
-meaning_short Quits n most behind within rest = absurd (cc rest)
+meaning_short (Skips refusal skip) n item_max behind within rest = absurd (cc rest)
+meaning_short Quits n item_max behind within rest = absurd (cc rest)
 
-module _ (item_max limit most : ℕ) (within : BlocksAreWithin item_max most) where
-  line_short : (n : ℕ) (cut : Cut) → Sized limit n cut → line_front item_max limit cut ≡ Rest → n < limit + most + 2
+module _ (within : BlocksAreWithin) (item_max limit : ℕ) where
+  line_short : (n : ℕ) (cut : Cut) → Sized limit n cut → line_front item_max limit cut ≡ Rest → n < limit + item_max + 2
   line_short n (Feed line behind) sized rest =
-      let less = meaning_short (meaning_of item_max line) (length line + 1) most behind (within line) rest in omega (arith, sized.0, sized.1, less)
+      let less = meaning_short (meaning_of item_max line) (length line + 1) item_max behind (within item_max line) rest in omega (arith, sized.0, sized.1, less)
   line_short n Lacking sized rest = omega (arith, sized)
   line_short n Over sized rest = absurd (cc rest)
 
-  skip_short : (n : ℕ) (cut : Cut) → Sized limit n cut → skip_front item_max limit cut ≡ Rest → n < limit + most + 2
+  skip_short : (n : ℕ) (cut : Cut) → Sized limit n cut → skip_front item_max limit cut ≡ Rest → n < limit + item_max + 2
   skip_short n (Feed line behind) sized rest = absurd (cc rest)
   skip_short n Lacking sized rest = omega (arith, sized)
   skip_short n Over sized rest = absurd (cc rest)
 
-  front_short : (place : Place) (bytes : List ℕ) → (IsEnd place → ⊥) → front_of item_max limit place bytes ≡ Rest → length bytes < limit + most + 2
+  front_short : (place : Place) (bytes : List ℕ) → (IsEnd place → ⊥) → front_of item_max limit place bytes ≡ Rest → length bytes < limit + item_max + 2
   front_short InLine bytes going rest = line_short (length bytes) (cut_within limit bytes) (cut_sized limit bytes) rest
   front_short InSkip bytes going rest = skip_short (length bytes) (cut_within limit bytes) (cut_sized limit bytes) rest
   front_short AtQuit bytes going rest = absurd (going tt)
   front_short TooLong bytes going rest = absurd (going tt)
 
-pub rest_is_short : ARestIsShort
-rest_is_short item_max most place bytes within going rest = front_short item_max line_limit most within place bytes going rest
+pub rest_is_short : BlocksAreWithin → ARestIsShort
+rest_is_short within item_max place bytes going rest = front_short within item_max line_limit place bytes going rest
 
 -- a block whose end isn't there
 end_awaited : (command : Command) (n size : ℕ) (block behind : List ℕ) → length behind < 2 → with_block command n size block behind ≡ Rest

@@ -77,6 +77,11 @@ module _ (item_max limit : ℕ) (some : 0 < limit) where
       ap (λ (f : Front). after_front f (λ skip p. read_from item_max limit skip p bytes) (unread item_max limit place (b ∷ bytes))) front
       ∙ ap (with_asked asked) (passed n next b bytes (subst TakesSome front (front_some place (cut_within limit (b ∷ bytes)))))
 
+  -- a front has a byte, and so do the bytes that it begins
+  pub has_a_byte : (n : ℕ) (asked : List Asked) (place next : Place) (bytes : List ℕ) → front_of item_max limit place bytes ≡ Takes asked n next → (1 ≤ n) × (1 ≤ length bytes)
+  has_a_byte n asked place next [] front = absurd (cc (front, none_rests place))
+  has_a_byte n asked place next (b ∷ bytes) front = (subst TakesSome front (front_some place (cut_within limit (b ∷ bytes))), omega arith)
+
   -- a rest asks nothing
   rest_asks_none : (place : Place) (bytes : List ℕ) → front_of item_max limit place bytes ≡ Rest → (read_from item_max limit 0 place bytes).asked ≡ []
   rest_asks_none place [] rest = refl

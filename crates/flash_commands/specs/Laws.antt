@@ -74,15 +74,16 @@ ARestIsAll = (item_max : ℕ) (bytes : List ℕ) (given : List Asked) (reader : 
     → front_of item_max line_limit reader.place reader.unread ≡ Rest → HasRead item_max bytes given reader
     → (commands_of item_max bytes).asked ≡ given
 
--- each block that a line announces has at most so many bytes
-abbrev pub BlocksAreWithin : ℕ → ℕ → Type 0
-BlocksAreWithin item_max most =
-    (line : List ℕ) (command : Command) (size : ℕ) → meaning_of item_max line ≡ Block command size → size ≤ most
+-- each block that a line of either protocol announces has at most as many bytes as a value may have
+abbrev pub BlocksAreWithin : Type 0
+BlocksAreWithin =
+    (item_max : ℕ) (line : List ℕ) (command : Command) (size : ℕ) → meaning_of item_max line ≡ Block command size
+    → size ≤ item_max
 
 -- where more bytes are needed, there are fewer than a line and the longest block may have; but for an end
 abbrev pub ARestIsShort : Type 0
-ARestIsShort = (item_max most : ℕ) (place : Place) (bytes : List ℕ) → BlocksAreWithin item_max most
-    → (IsEnd place → ⊥) → front_of item_max line_limit place bytes ≡ Rest → length bytes < line_limit + most + 2
+ARestIsShort = (item_max : ℕ) (place : Place) (bytes : List ℕ) → (IsEnd place → ⊥)
+    → front_of item_max line_limit place bytes ≡ Rest → length bytes < line_limit + item_max + 2
 
 -- after a whole line whose block isn't, more bytes are needed until the block and its end are there: the line needn't be
 -- read again before
@@ -90,3 +91,8 @@ abbrev pub ABlockIsAwaited : Type 0
 ABlockIsAwaited = (item_max size : ℕ) (bytes more line behind : List ℕ) (command : Command)
     → cut_within line_limit bytes ≡ Feed line behind → meaning_of item_max line ≡ Block command size
     → length (behind ++ more) < size + 2 → front_of item_max line_limit InLine (bytes ++ more) ≡ Rest
+
+-- a front has a byte at least, and is there only where there is a byte
+abbrev pub EachFrontHasAByte : Type 0
+EachFrontHasAByte = (item_max n : ℕ) (place next : Place) (bytes : List ℕ) (asked : List Asked)
+    → front_of item_max line_limit place bytes ≡ Takes asked n next → (1 ≤ n) × (1 ≤ length bytes)

@@ -11,15 +11,15 @@ use Rattle.flash_names.specs.Numbers.{number_of}
 use Rattle.flash_meta.specs.declared.meta.MetaVerb.{MetaVerb}
 use Rattle.flash_meta.specs.declared.meta.MetaVerb.TheVariants as verbs
 use Rattle.flash_meta.specs.declared.meta.MetaLine.{MetaLine}
-use Rattle.flash_meta.specs.declared.meta.MetaLine.TheVariants.{Bad}
+use Rattle.flash_meta.specs.declared.meta.MetaLine.TheVariants.{Data, Bad}
 use Rattle.flash_meta.specs.declared.flags.Flags.{Flags}
 use Rattle.flash_meta.specs.MetaParts.{MetaParts}
 use Rattle.flash_meta.specs.MetaSaid.{MetaSaid}
 use Rattle.flash_meta.specs.FlagReading.{flags_in}
 use Rattle.flash_meta.specs.Keys.{key_of}
 use Rattle.flash_meta.specs.MetaLines.{length_of, said_of, accepted, answer_with_key, answer_of, parts_of, answer_behind, verb_of_words, answer_if, meta_of}
-use Rattle.flash_meta.specs.MetaLaws.{said_in, HasWords}
-use Rattle.flash_meta.proofs.Order.{answer_with_flags, answer_by_length}
+use Rattle.flash_meta.specs.MetaLaws.{said_in, HasWords, DataIsWithin}
+use Rattle.flash_meta.proofs.Order.{answer_with_flags, answer_by_length, comes_first}
 
 -- a line was read from these words and flags, and this key
 pub record IsRead (item_max : ℕ) (line : List ℕ) (said : MetaSaid) : Type 0 where
@@ -93,6 +93,28 @@ by_verb item_max line said (Some verb) has_verb read = by_parts item_max line sa
 pub read_from : (item_max : ℕ) (line : List ℕ) (said : MetaSaid) → said_in (meta_of item_max line) ≡ Some said → IsRead item_max (without_return line) said
 unfolding meta_of
 read_from item_max line said read = by_verb item_max (without_return line) said _ refl read
+
+-- the answer to a line that is read
+answer_is : (item_max : ℕ) (line : List ℕ) (said : MetaSaid) (read : IsRead item_max line said) → answer_if item_max (verb_of_words (spaced_words line)) (behind_words 1 line) ≡ accepted read.parts.length said
+unfolding answer_behind
+answer_is item_max line said read =
+    ap (λ (verb : Option MetaVerb). answer_if item_max verb (behind_words 1 line)) read.has_verb
+    ∙ ap (answer_with_parts item_max) read.has_parts
+    ∙ (comes_first item_max read.parts).read read.flags read.key read.has_flags read.has_key read.allowed
+    ∙ ap (accepted read.parts.length) (sym read.is)
+
+size_by : (length : Option ℕ) (said other : MetaSaid) (size : ℕ) → accepted length said ≡ Data other size → length_of length ≡ size
+size_by None said other size is = absurd (cc is)
+size_by (Some n) said other size is = cc is
+
+-- the data that follows a line is within what is allowed
+pub data_within : DataIsWithin
+unfolding meta_of
+data_within item_max line said size is =
+    let read = read_from item_max line said (ap said_in is) in
+    let answer = answer_is item_max (without_return line) said read in
+    let same = size_by read.parts.length said said size (sym answer ∙ is) in
+    omega (arith, same, read.allowed)
 
 -- the words behind a command are the key, the length where it is `ms`, and the flags
 abbrev BehindVerb : MetaVerb → List (List ℕ) → MetaParts → Type 0

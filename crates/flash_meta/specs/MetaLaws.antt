@@ -70,6 +70,12 @@ NumbersAreInRange =
     (item_max : ℕ) (line : List ℕ) (said : MetaSaid) → said_in (meta_of item_max line) ≡ Some said
     → IsInRange item_max said
 
+-- the data that follows a line has at most as many bytes as are allowed
+abbrev pub DataIsWithin : Type 0
+DataIsWithin =
+    (item_max : ℕ) (line : List ℕ) (said : MetaSaid) (size : ℕ) → meta_of item_max line ≡ Data said size
+    → size ≤ item_max
+
 -- the refusals of a line that has its words: first that of its flags, then of its key, then of its length
 pub record ComesFirst (item_max : ℕ) (parts : MetaParts) : Type 0 where
   pub bad_flags : (refusal : Refusal) → flags_in parts.verb (spaced_words parts.asked) ≡ Err refusal

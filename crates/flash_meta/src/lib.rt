@@ -17,8 +17,8 @@ mod meta;
 mod verbs;
 
 pub use laws::{
-    each_key_is_that_of_its_word, each_line_gives_its_words_back, no_letter_is_given_twice,
-    numbers_are_in_range, refusals_come_in_order,
+    data_is_within, each_key_is_that_of_its_word, each_line_gives_its_words_back,
+    no_letter_is_given_twice, numbers_are_in_range, refusals_come_in_order,
 };
 pub use line::read_meta;
 pub use meta::{Meta, MetaLine, MetaVerb};

@@ -5,8 +5,8 @@
 //! as its bytes are there, and over the rest of them as they come. Nothing is copied but what is fed: a front is lent.
 //!
 //! Proved: `front` is exactly the front of the unread bytes by `flash_commands`, whose laws say that the fronts that are
-//! taken one after the other are the commands of all bytes fed, however they were cut. That the reader has room for more
-//! where no front is whole isn't proved: it rests on each block being within `item_max`, which no law says yet.
+//! taken one after the other are the commands of all bytes fed, however they were cut. Where it needs more bytes, the
+//! reader has room for one at least: `front` says so (`room`), by the law that a rest is short.
 #![tactic(auto)]
 
 mod front;

@@ -1,12 +1,13 @@
-ghost use Rattle.std.specs.Prelude.{◌≡◌, ◌≤◌, ◌++◌, min, length, take, drop, [], IfOk, OnOk, OnErr, IsSome};
+ghost use Rattle.std.specs.Prelude.{◌≡◌, ◌≤◌, ◌++◌, min, length, take, drop, [], IfOk, OnOk, OnErr, IsSome, IsNone};
 ghost use Rattle.flash_commands.specs.declared.place.Place.TheVariants as places;
 ghost use Rattle.flash_commands.specs.Commands.{front_of, line_limit};
+ghost use Rattle.flash_commands.specs.Laws.{IsEnd};
 ghost use Rattle.flash_reader.specs.Fronts.{front_said};
 ghost use Rattle.flash_reader.specs.Readers.{room_of, fed, taken};
 
 pub use crate::front::LINE_LIMIT;
 use crate::front::{Front, read_front};
-use flash_commands::Place;
+use flash_commands::{Place, a_rest_is_short};
 use std::alloc::{AllocError, Global};
 use std::marker::Model;
 
@@ -81,12 +82,16 @@ impl Reader {
         Ok(n)
     }
 
-    /// The front of the unread bytes, or `None` where more bytes are needed, or none is read any more.
+    /// The front of the unread bytes, or `None` where more bytes are needed, or none is read any more. Where more are
+    /// needed, there is room for one at least.
     pub fn front(&self) -> Option<Front<'_>>
         ensures front { front_said result
             ≡ front_of self.now.item_max line_limit self.now.reader.place self.now.reader.unread }
         ensures none_skipped { IsSome result → self.now.reader.skip ≡ 0 }
+        ensures room { IsNone result → (IsEnd self.now.reader.place → ⊥) → 1 ≤ room_of self.now }
     {
+        // The law does nothing: the call brings it into this function's proof.
+        a_rest_is_short();
         read_front(self.item_max, self.place, self.bytes.split_at(self.start).1)
     }
 

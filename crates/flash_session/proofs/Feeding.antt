@@ -1,10 +1,7 @@
 -- A session is fed.
-use Rattle.std.proofs.Common.{◌≡◌, ℕ, zero, suc, List, [], ◌∷◌, ◌++◌, length, drop, Option, None, refl, sym, ◌∙◌, ap, subst, arith}
+use Rattle.std.proofs.Common.{◌≡◌, ℕ, List, [], ◌∷◌, ◌++◌, length, drop, sym, ◌∙◌, ap, subst, arith}
 use Rattle.std.specs.Prelude.{min, IsSome}
-use Rattle.flash_entry.specs.declared.ask.Ask.{Ask}
 use Rattle.flash_entry.specs.declared.found.Told.{Told}
-use Rattle.flash_commands.specs.declared.place.Place.{Place}
-use Rattle.flash_commands.specs.declared.place.Place.TheVariants.{InLine, InSkip, AtQuit, TooLong}
 use Rattle.flash_commands.specs.Parts.{Front, Takes, Rest}
 use Rattle.flash_commands.specs.Commands.{line_limit, front_of}
 use Rattle.flash_commands.proofs.Fronts.{FrontStays, front_stays}
@@ -13,42 +10,26 @@ use Rattle.flash_reader.specs.Readers.{fed}
 use Rattle.flash_session.specs.Talks.{talk_of}
 use Rattle.flash_session.specs.States.{Session, front_now, ask_at}
 use Rattle.flash_session.specs.Stands.{front_replies, Stands}
+use Rattle.flash_session.proofs.Resting.{none_asked, asked_none_skipped}
 use Rattle.flash_session.proofs.Reading.{none_replied, passes, held_over}
-
-none_asked : IsSome (let none : Option Ask = None in none) → ⊥
-none_asked some = cc
 
 -- a front at which a step is asked stays
 asked_stays : (step : ℕ) (front longer : Front) → FrontStays front longer → IsSome (ask_at step front) → longer ≡ front
 asked_stays step (Takes asked n place) longer stays some = stays
 asked_stays step Rest longer stays some = absurd (none_asked some)
 
--- no bytes are a rest
-none_rests : (item_max : ℕ) (place : Place) → front_of item_max line_limit place [] ≡ Rest
-none_rests item_max InLine = refl
-none_rests item_max InSkip = refl
-none_rests item_max AtQuit = refl
-none_rests item_max TooLong = refl
-
 module _ (bytes more : List ℕ) (told : List Told) (gone : List ℕ) (s : Session) (stands : Stands bytes told gone s) where
   abbrev after : Session
   after = record s { reads = record s.reads { reader = fed s.reads.reader more } }
 
-  -- by whether bytes are yet to be skipped
-  stays_by : (skip : ℕ) → s.reads.reader.skip ≡ skip → IsSome (ask_at s.step (front_now s)) → front_now after ≡ front_now s
-  stays_by zero none some =
+  stays : IsSome (ask_at s.step (front_now s)) → front_now after ≡ front_now s
+  stays some =
+      let none = asked_none_skipped bytes told gone s stands some in
       let same : min s.reads.reader.skip (length (s.reads.reader.unread ++ more)) ≡ 0 = omega (arith, none) in
       let front : front_now after ≡ front_of s.reads.item_max line_limit s.reads.reader.place (s.reads.reader.unread ++ more) =
       ap (λ (k : ℕ). front_of s.reads.item_max line_limit s.reads.reader.place (drop k (s.reads.reader.unread ++ more))) same in
       front ∙ asked_stays s.step (front_now s) (front_of s.reads.item_max line_limit s.reads.reader.place (s.reads.reader.unread ++ more))
       (front_stays s.reads.item_max line_limit s.reads.reader.place s.reads.reader.unread more) some
-  stays_by (suc skip) held some =
-      let none : s.reads.reader.unread ≡ [] = stands.held (omega (arith, held)) in
-      let rest : front_now s ≡ Rest = ap (front_of s.reads.item_max line_limit s.reads.reader.place) none ∙ none_rests s.reads.item_max s.reads.reader.place in
-      absurd (none_asked (subst (λ (f : Front). IsSome (ask_at s.step f)) rest some))
-
-  stays : IsSome (ask_at s.step (front_now s)) → front_now after ≡ front_now s
-  stays some = stays_by s.reads.reader.skip refl some
 
   replied_by : (here : List Told) → s.step ≡ length here → front_replies (front_now after) here ≡ front_replies (front_now s) here
   replied_by [] step = none_replied (front_now after) ∙ sym (none_replied (front_now s))

@@ -3,3 +3,6 @@ mod Reading
 mod Answering
 mod Feeding
 mod Asking
+mod Uniform
+mod Resting
+mod ReadingOn

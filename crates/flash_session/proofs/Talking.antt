@@ -1,5 +1,7 @@
 -- Talks, one after the other.
-use Rattle.std.proofs.Common.{◌≡◌, ℕ, ◌+◌, Bool, true, false, List, [], ◌∷◌, ◌++◌, Some, if◌then◌else◌, sym, ◌∙◌, ap, subst, append_assoc}
+use Rattle.std.proofs.Common.{◌≡◌, ℕ, zero, suc, ◌+◌, Bool, true, false, List, [], ◌∷◌, ◌++◌, length, Some, if◌then◌else◌, refl, sym, ◌∙◌, ap, subst, append_assoc, arith}
+use Rattle.std.specs.Prelude.{take}
+use Rattle.std.specs.List.{AllByRecursion}
 use Rattle.flash_entry.specs.declared.ask.Ask.{Ask}
 use Rattle.flash_entry.specs.declared.found.Told.{Told}
 use Rattle.flash_reply.specs.declared.command.Command.{Command}
@@ -7,7 +9,7 @@ use Rattle.flash_reply.specs.Lines.{refusal_line}
 use Rattle.flash_reply.specs.Replies.{text}
 use Rattle.flash_commands.specs.Parts.{Asked, Asks, Refused}
 use Rattle.flash_commands.specs.Asks.{asks_of}
-use Rattle.flash_session.specs.Talks.{Talk, then_talk, ends_command, talk_steps, plain_reply, talk_of, left_of_steps, IsWhole}
+use Rattle.flash_session.specs.Talks.{Talk, then_talk, ends_command, talk_steps, plain_reply, talk_of, steps_of, left_of_steps, IsWhole}
 
 pub then_assoc : (one two three : Talk) → then_talk (then_talk one two) three ≡ then_talk one (then_talk two three)
 then_assoc one two three = λ i. record { asks = append_assoc one.asks two.asks three.asks i; replies = append_assoc one.replies two.replies three.replies i }
@@ -63,3 +65,47 @@ whole_on [] more before here whole then_whole = subst (λ (t : List Told). IsWho
 whole_on (Refused refusal ∷ done) more before here whole then_whole = whole_on done more before here whole then_whole
 whole_on (Asks command block ∷ done) more before here whole then_whole =
     (whole.0 ++ here, left_on (asks_of command block) before whole.0 here whole.1, whole_on done more whole.0 here whole.2 then_whole)
+
+-- a talk that is answered whole has as many steps as answers
+module _ (command : Command) (after : List Told → Talk) where
+  count_by : (asks : List Ask) (step : ℕ) (told left : List Told) (ends : Bool) → (if ends then Some told else left_of_steps asks told) ≡ Some left
+      → (left_of_steps asks told ≡ Some left → length (talk_steps command step asks told after).asks + length left ≡ length told + length (after left).asks)
+      → length (if ends then after told else talk_steps command step asks told after).asks + length left ≡ length told + length (after left).asks
+  count_by asks step told left true is more = subst (λ (l : List Told). length (after told).asks + length l ≡ length told + length (after l).asks) (some_left left told is) (omega arith)
+  count_by asks step told left false is more = more is
+
+  steps_count : (asks : List Ask) (step : ℕ) (told left : List Told) → left_of_steps asks told ≡ Some left → length (talk_steps command step asks told after).asks + length left ≡ length told + length (after left).asks
+  steps_count [] step told left is = subst (λ (l : List Told). length (after told).asks + length l ≡ length told + length (after l).asks) (some_left left told is) (omega arith)
+  steps_count (ask ∷ asks) step [] left is = absurd (cc is)
+  steps_count (ask ∷ asks) step (answer ∷ told) left is =
+      let more = count_by asks (step + 1) told left (ends_command answer) is (λ same. steps_count asks (step + 1) told left same) in omega (arith, more)
+
+pub whole_count : (done : List Asked) (before : List Told) → IsWhole done before → length (talk_of done before).asks ≡ length before
+whole_count [] before whole = sym (ap (λ (l : List Told). length l) whole)
+whole_count (Refused refusal ∷ done) before whole = whole_count done before whole
+whole_count (Asks command block ∷ done) before whole =
+    let steps = steps_count command (λ left. talk_of done left) (asks_of command block) 1 before whole.0 whole.1 in
+    let rest = whole_count done whole.0 whole.2 in
+    omega (arith, steps, rest)
+
+-- where each step had memory, the steps so far are the first ones
+abbrev NoneEnds : List Told → Type 0
+NoneEnds told = AllByRecursion (λ answer. ends_command answer ≡ false) told
+
+take_none : (n : ℕ) → [] ≡ take n (let none : List Ask = [] in none)
+take_none zero = refl
+take_none (suc n) = refl
+
+steps_taken : (command : Command) (after : List Told → Talk) (rest asks : List Ask) (step : ℕ) (told : List Told) → NoneEnds told
+    → ((left : List Told) → NoneEnds left → (after left).asks ≡ take (length left + 1) rest) → (talk_steps command step asks told after).asks ≡ take (length told + 1) (asks ++ rest)
+steps_taken command after rest [] step told none more = more told none
+steps_taken command after rest (ask ∷ asks) step [] none more = refl
+steps_taken command after rest (ask ∷ asks) step (answer ∷ told) none more =
+    let number : suc (length told + 1) ≡ suc (length told) + 1 = omega arith in
+    rw none.0 (ap (λ (l : List Ask). ask ∷ l) (steps_taken command after rest asks (step + 1) told none.1 more)) ∙ ap (λ (n : ℕ). take n (ask ∷ (asks ++ rest))) number
+
+pub talk_taken : (asked : List Asked) (told : List Told) → NoneEnds told → (talk_of asked told).asks ≡ take (length told + 1) (steps_of asked)
+talk_taken [] told none = take_none (length told + 1)
+talk_taken (Refused refusal ∷ more) told none = talk_taken more told none
+talk_taken (Asks command block ∷ more) told none =
+    steps_taken command (λ left. talk_of more left) (steps_of more) (asks_of command block) 1 told none (λ left each. talk_taken more left each)

@@ -1,4 +1,5 @@
 pub mod Talks
 pub mod States
 pub mod Stands
+pub mod Todos
 pub mod Laws

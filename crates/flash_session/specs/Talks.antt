@@ -48,6 +48,12 @@ talk_of (Asks command block ∷ more) told =
     then_talk (record { asks = []; replies = plain_reply command (asks_of command block) })
     (talk_steps command 1 (asks_of command block) told (λ left. talk_of more left))
 
+-- the steps that are asked, one after the other, where each has memory
+abbrev pub steps_of : List Asked → List Ask
+steps_of [] = []
+steps_of (Refused refusal ∷ more) = steps_of more
+steps_of (Asks command block ∷ more) = asks_of command block ++ steps_of more
+
 -- what is left of the answers after a command's steps, or nothing where an answer is awaited
 abbrev pub left_of_steps : List Ask → List Told → Option (List Told)
 left_of_steps [] told = Some told

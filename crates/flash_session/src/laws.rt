@@ -1,6 +1,6 @@
 // What a session stands for after each of its calls.
 ghost use Rattle.flash_session.specs.Laws.{ANewSessionStandsForNothing, AFeedGoesOn, AReadGoesOn, AnAskGoesOn};
-ghost use Rattle.flash_session.specs.Laws.{AnAskIsTheNextStep, AnAnswerGoesOn, ASendGoesOn, AllIsSaid};
+ghost use Rattle.flash_session.specs.Laws.{AnAskIsTheNextStep, StepsAreCounted, StepsComeInOrder, AnAnswerGoesOn, ASendGoesOn, AllIsSaid};
 
 /// A session that was fed nothing stands for no bytes, no answers and no bytes that were sent.
 pub fn a_new_session_stands_for_nothing()
@@ -22,9 +22,20 @@ pub fn an_ask_goes_on()
     ensures { AnAskGoesOn }
 {}
 
-/// The step that a session asks is the next one of all that its bytes ask, and has the number after the last.
+/// The step at a session's front is the next one of all that its bytes ask: that after those that were answered.
 pub fn an_ask_is_the_next_step()
     ensures { AnAskIsTheNextStep }
+{}
+
+/// The number of a session's last step counts those that were answered, and the one that awaits its answer.
+pub fn steps_are_counted()
+    ensures { StepsAreCounted }
+{}
+
+/// Where each step had memory, the steps so far are the first of those that the commands ask, in order: as many as were
+/// answered, and the one that is next.
+pub fn steps_come_in_order()
+    ensures { StepsComeInOrder }
 {}
 
 /// A session that is told an answer stands for the longer answers.
@@ -37,7 +48,8 @@ pub fn a_send_goes_on()
     ensures { ASendGoesOn }
 {}
 
-/// Where a session has nothing to send and needs more bytes, all replies were sent.
+/// Where a session has nothing to send and no whole front, each step that its bytes ask was answered, all replies were
+/// sent, and its place is where the bytes end.
 pub fn all_is_said()
     ensures { AllIsSaid }
 {}

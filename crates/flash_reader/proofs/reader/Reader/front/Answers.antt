@@ -1,5 +1,8 @@
-use Rattle.std.proofs.Common.{◌≡◌, List, ℕ, drop, ◌∙◌, ap, subst}
+use Rattle.std.proofs.Common.{◌≡◌, List, ℕ, drop, Option, None, Some, refl, sym, ◌∙◌, ap, subst, arith}
+use Rattle.std.specs.Prelude.{IsNone}
+use Rattle.flash_commands.specs.Parts.{Rest}
 use Rattle.flash_commands.specs.Commands.{front_of, line_limit}
+use Rattle.flash_reader.specs.declared.front.Front.{Front}
 use Rattle.flash_reader.specs.Fronts.{front_said}
 use Rattle.flash_reader.specs.Readers.{Reads}
 use Rattle.flash_reader.proofs.reader.Reader.front.Goals as goal
@@ -10,3 +13,15 @@ returns-clause-front c =
     let back : c.split_at.result.1.now ≡ drop f.start f.bytes.items = c.split_at.ensures.back ∙ ap (drop f.start) c.deref.ensures.value in
     subst (λ (s : Reads). front_said c.read_front.result ≡ front_of s.item_max line_limit s.reader.place s.reader.unread) c.self.view_is
     (c.read_front.ensures ∙ ap (λ (bytes : List ℕ). front_of f.item_max line_limit f.place bytes) back)
+
+-- where there is no front, more bytes are needed
+no_front : (front : Option Front) → IsNone front → front_said front ≡ Rest
+no_front None none = refl
+no_front (Some front) none = absurd (cc none)
+
+pub returns-clause-room : goal.returns-clause-room
+returns-clause-room c = λ none going.
+    let reads = c.args.self.now in
+    let rest = sym (returns-clause-front c) ∙ no_front c.read_front.result none in
+    let less = c.a_rest_is_short.ensures reads.item_max reads.reader.place reads.reader.unread going rest in
+    omega (arith, less)

@@ -1,0 +1,9 @@
+mod Lists
+mod Behind
+mod Staying
+mod Recorded
+mod Telling
+mod Leaving
+mod Numbering
+mod Asking
+mod GoingOn

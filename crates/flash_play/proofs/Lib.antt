@@ -1,0 +1,11 @@
+mod Lists
+mod Serving
+mod UpTo
+mod BeforeLastRun
+mod Upkept
+mod Moments
+mod Seating
+mod Numbering
+mod Right
+mod Printed
+mod Fronts
