@@ -3,7 +3,7 @@ use Rattle.std.proofs.Common.{◌≡◌, ℕ, Bool, true, false, List, [], ◌�
 use Rattle.std.specs.Prelude.{◌||◌}
 use Rattle.std.proofs.lemmas.List.{append-nil}
 use Rattle.flash_play.specs.Answers.{bytes_for, bytes_before_last_run, is_run, has_run}
-use Rattle.flash_play.specs.Steps.{Step}
+use Rattle.flash_script.specs.Steps.{Step}
 
 -- the bytes before a session's last turn after these steps, where it was given `given` before them, of
 -- which `turned` was before its last turn

@@ -11,9 +11,9 @@ use Rattle.flash_core.specs.Calls.{clock_call}
 use Rattle.flash_commands.specs.Commands.{commands_of}
 use Rattle.flash_session.specs.Talks.{steps_of}
 use Rattle.flash_play.specs.Fronts.{GoesOnFrom, EachFrontMakesAFront}
-use Rattle.flash_play.specs.Playing.{StoreState, Play, first_play, do_ask, do_asks, seat_with_more, feed, play_from, play_step, seat_at, with_line, with_seat, called, upkeep_call}
+use Rattle.flash_play.specs.Playing.{Seat, StoreState, Play, Need, Writes, Does, Ends, Rests, need_of, turn_by, first_play, do_ask, do_asks, seat_with_more, feed, play_from, play_step, seat_at, with_line, with_seat, called, upkeep_call}
 use Rattle.flash_core.specs.Store.{Call}
-use Rattle.flash_play.specs.Steps.{Step, Clock, Say, Feed, Run, Keep}
+use Rattle.flash_script.specs.Steps.{Step, Clock, Say, Feed, Turn, Run, Keep}
 use Rattle.flash_play.proofs.Seating.{kept_called}
 
 same_front : (h : List Entry) → GoesOnFrom h h
@@ -41,11 +41,18 @@ module _ (g : Geometry) where
   call_goes_on : (p : Play) (line : ℕ) (call : Call Bool) → GoesOnFrom p.kept.journal (called p line call).kept.journal
   call_goes_on p line call = subst (λ (k : StoreState). GoesOnFrom p.kept.journal k.journal) (sym (kept_called p line call)) (record { more = call.entries; parts = refl })
 
+  turn_goes_on : (p : Play) (line session : ℕ) (seat : Seat) (need : Need) → GoesOnFrom p.kept.journal (turn_by g p line session seat need).kept.journal
+  turn_goes_on p line session seat (Writes piece) = same_front p.kept.journal
+  turn_goes_on p line session seat (Does ask) = asks_go_on session (p.kept, seat.told) (ask ∷ [])
+  turn_goes_on p line session seat Ends = same_front p.kept.journal
+  turn_goes_on p line session seat Rests = same_front p.kept.journal
+
   step_goes_on : (p : Play) (line : ℕ) (step : Step) → GoesOnFrom p.kept.journal (play_step g p line step).kept.journal
   step_goes_on p line (Clock reading) = call_goes_on p line (clock_call p.kept.cache p.kept.desk reading)
   step_goes_on p line (Keep kind) = call_goes_on p line (upkeep_call g p.kept.cache p.kept.desk kind)
   step_goes_on p line (Say session bytes) = feed_goes_on p line session (bytes ++ 13 ∷ 10 ∷ [])
   step_goes_on p line (Feed session bytes) = feed_goes_on p line session bytes
+  step_goes_on p line (Turn session) = turn_goes_on p line session (seat_at p session) (need_of g (seat_at p session))
   step_goes_on p line (Run session) = let seat = seat_at p session in
       asks_go_on session (p.kept, seat.told) (drop (length seat.told) (steps_of (commands_of g.item_max seat.given).asked))
 

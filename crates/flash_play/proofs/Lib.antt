@@ -6,6 +6,8 @@ mod Upkept
 mod Moments
 mod Seating
 mod Numbering
+mod Holding
+mod Turning
 mod Right
 mod Printed
 mod Fronts

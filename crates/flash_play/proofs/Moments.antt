@@ -9,7 +9,7 @@ use Rattle.flash_machine.specs.Moments.{is_reached}
 use Rattle.flash_machine.specs.Steps.{clock_next}
 use Rattle.flash_core.specs.Store.{Desk, Call}
 use Rattle.flash_core.specs.Calls.{clock_call}
-use Rattle.flash_play.specs.declared.step.Upkeep.{Upkeep}
+use Rattle.flash_script.specs.declared.step.Upkeep.{Upkeep}
 use Rattle.flash_play.specs.Playing.{upkeep_call}
 use Rattle.flash_play.proofs.Upkept.{upkeep_cache}
 

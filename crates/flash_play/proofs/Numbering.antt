@@ -1,20 +1,21 @@
 -- Numbers of steps are never given twice.
-use Rattle.std.proofs.Common.{◌≡◌, ◌≢◌, ℕ, Bool, List, [], ◌∷◌, ◌++◌, length, drop, refl, sym, subst, inl, inr}
+use Rattle.std.proofs.Common.{◌≡◌, ◌≢◌, ℕ, Bool, true, false, List, [], ◌∷◌, ◌++◌, length, drop, refl, sym, subst, inl, inr}
 use Rattle.std.specs.Prelude.{codes}
 use Rattle.std.proofs.lemmas.Bool.{cases_eq, cond_both}
 use Rattle.flash_names.specs.declared.place.Id.{Id}
 use Rattle.flash_names.specs.declared.geometry.Geometry.{Geometry}
+use Rattle.flash_entry.specs.declared.found.Told.{Told}
 use Rattle.flash_machine.specs.NewSteps.{IsNew}
 use Rattle.flash_core.specs.Store.{Call}
 use Rattle.flash_core.specs.Calls.{clock_call}
 use Rattle.flash_answers.specs.Records.{AreOfNoStep}
 use Rattle.flash_commands.specs.Commands.{commands_of}
 use Rattle.flash_session.specs.Talks.{steps_of}
-use Rattle.flash_play.specs.declared.step.Upkeep.{Upkeep}
-use Rattle.flash_play.specs.declared.step.Upkeep.TheVariants.{Room, Reap, Juggle}
+use Rattle.flash_script.specs.declared.step.Upkeep.{Upkeep}
+use Rattle.flash_script.specs.declared.step.Upkeep.TheVariants.{Room, Reap, Juggle}
 use Rattle.flash_play.specs.Numbers.{IsNumbered}
-use Rattle.flash_play.specs.Playing.{Seat, StoreState, Play, first_play, after_call, number_after, do_asks, seat_after_run, seat_at, with_seat, with_line, seat_with_more, feed, run, called, upkeep_call, play_step}
-use Rattle.flash_play.specs.Steps.{Step, Clock, Say, Feed, Run, Keep, IsSession, IsSeated}
+use Rattle.flash_play.specs.Playing.{Seat, StoreState, Play, Need, Writes, Does, Ends, Rests, need_of, turn_by, first_play, after_call, number_after, do_ask, do_asks, seat_after_run, seat_at, with_seat, with_line, seat_with_more, feed, run, called, upkeep_call, play_step}
+use Rattle.flash_script.specs.Steps.{Step, Clock, Say, Feed, Turn, Run, Keep, IsSession, IsSeated}
 use Rattle.flash_play.proofs.Seating.{seat_is, seat_same, seat_other, kept_called, seats_called}
 use Rattle.flash_play.proofs.Serving.{NumberLaws, asks_leave_own, asks_leave_other}
 
@@ -55,6 +56,19 @@ module _ (laws : NumberLaws) where
       (λ shut. numbered_with p closed session seat sixteen is refl (numbered session is) (λ id other new. new) numbered)
       (λ free. numbered_with p takes session (seat_with_more seat bytes) sixteen is refl (numbered session is) (λ id other new. new) numbered)
 
+  turn_numbered : (g : Geometry) (p : Play) (line session : ℕ) (need : Need) → length p.seats ≡ 16 → IsSession session → IsNumbered p → IsNumbered (turn_by g p line session (seat_at p session) need)
+  turn_numbered g p line session (Writes piece) sixteen is numbered = let seat = seat_at p session in
+      numbered_with p (turn_by g p line session seat (Writes piece)) session (record seat { replies = seat.replies ++ piece }) sixteen is refl (numbered session is) (λ id other new. new) numbered
+  turn_numbered g p line session (Does ask) sixteen is numbered =
+      let seat = seat_at p session in
+      let before : StoreState × List Told = (p.kept, seat.told) in
+      numbered_with p (turn_by g p line session seat (Does ask)) session (record seat { told = (do_ask g session before ask).1 }) sixteen is refl
+      (asks_leave_own laws g session before (ask ∷ []) (numbered session is)) (λ id other new. asks_leave_other laws g session id before (ask ∷ []) other new) numbered
+  turn_numbered g p line session Ends sixteen is numbered = let seat = seat_at p session in
+      numbered_with p (turn_by g p line session seat Ends) session (record seat { closed = true }) sixteen is refl (numbered session is) (λ id other new. new) numbered
+  turn_numbered g p line session Rests sixteen is numbered = let seat = seat_at p session in
+      numbered_with p (turn_by g p line session seat Rests) session (record seat { closed = false }) sixteen is refl (numbered session is) (λ id other new. new) numbered
+
   -- each step keeps each session's next number new
   pub step_numbered : (g : Geometry) (p : Play) (line : ℕ) (step : Step) → length p.seats ≡ 16 → IsSeated step → IsNumbered p → IsNumbered (play_step g p line step)
   step_numbered g p line (Clock reading) sixteen seated numbered =
@@ -62,6 +76,7 @@ module _ (laws : NumberLaws) where
   step_numbered g p line (Keep kind) sixteen seated numbered = called_numbered p line (upkeep_call g p.kept.cache p.kept.desk kind) (upkeep_none g p kind) numbered
   step_numbered g p line (Say session bytes) sixteen seated numbered = feed_numbered p line session (bytes ++ 13 ∷ 10 ∷ []) sixteen seated numbered
   step_numbered g p line (Feed session bytes) sixteen seated numbered = feed_numbered p line session bytes sixteen seated numbered
+  step_numbered g p line (Turn session) sixteen seated numbered = turn_numbered g p line session (need_of g (seat_at p session)) sixteen seated numbered
   step_numbered g p line (Run session) sixteen seated numbered =
       let seat = seat_at p session in
       let read = commands_of g.item_max seat.given in

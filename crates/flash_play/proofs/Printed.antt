@@ -12,14 +12,13 @@ use Rattle.flash_names.specs.declared.geometry.Geometry.{Geometry}
 use Rattle.flash_machine.specs.Cache.{Cache}
 use Rattle.flash_core.specs.Store.{Desk, Call}
 use Rattle.flash_core.specs.Calls.{clock_call}
-use Rattle.flash_play.specs.Answers.{bytes_for, bytes_to, bytes_before_last_run, is_run, moment_with, moment_after}
-use Rattle.flash_commands.specs.Commands.{commands_of}
-use Rattle.flash_play.specs.Playing.{Seat, Play, is_end, seat_at, with_seat, with_line, seat_with_more, feed, after_call, upkeep_call, play_step, play_from, play_of, first_play}
-use Rattle.flash_play.specs.Printing.{printed_line, feed_prints, step_prints, upkeep_does, steps_print, names, EveryPlayIsPrinted}
-use Rattle.flash_play.specs.Steps.{Step, Clock, Say, Feed, Run, Keep, IsSession, IsSeated, AreSeated}
-use Rattle.flash_play.proofs.BeforeLastRun.{turned_behind, turned_from_first}
+use Rattle.flash_play.specs.Answers.{bytes_for, moment_with, moment_after}
+use Rattle.flash_play.specs.Playing.{Seat, Play, Need, Writes, Does, Ends, Rests, need_of, turn_by, seat_at, with_seat, with_line, seat_with_more, feed, after_call, upkeep_call, play_step, play_from, play_of, first_play}
+use Rattle.flash_play.specs.Printing.{printed_line, feed_prints, turn_prints, step_prints, upkeep_does, steps_print, names, EveryPlayIsPrinted}
+use Rattle.flash_script.specs.Steps.{Step, Clock, Say, Feed, Turn, Run, Keep, IsSession, IsSeated, AreSeated}
 use Rattle.flash_play.proofs.Lists.{get-set_same, get-set_other}
-use Rattle.flash_play.proofs.Right.{Holds, step_holds, first_holds}
+use Rattle.flash_play.proofs.Holding.{Holds}
+use Rattle.flash_play.proofs.Right.{turned_by, since_by, step_holds, first_holds}
 use Rattle.flash_play.proofs.Seating.{step_seats, seats_called}
 use Rattle.flash_play.proofs.Serving.{StepLaws}
 use Rattle.flash_play.proofs.UpTo.{ByteLaws}
@@ -29,26 +28,7 @@ line_text : (printed word : List ℕ) (line : ℕ) → printed ++ word ++ 32 ∷
 line_text printed word line =
     append_assoc (printed ++ word) (32 ∷ decimal line) (10 ∷ []) ∙ append_assoc printed word (32 ∷ decimal line ++ 10 ∷ [])
 
--- the bytes before the last run, after one step more
-turned_more : (session : ℕ) (given turned : List ℕ) (steps : List Step) (step : Step)
-    → turned_behind session given turned (steps ++ step ∷ []) ≡ (if is_run session step then given ++ bytes_to session steps else turned_behind session given turned steps)
-turned_more session given turned [] step = ap (λ (l : List ℕ). if is_run session step then l else turned) (sym (append-nil given))
-turned_more session given turned (first ∷ steps) step =
-    turned_more session (given ++ bytes_for session first) (if is_run session first then given else turned) steps step
-    ∙ ap (λ (l : List ℕ). if is_run session step then l else turned_behind session given turned (first ∷ steps)) (append_assoc given (bytes_for session first) (bytes_to session steps))
-
-last_run_more : (session : ℕ) (steps : List Step) (step : Step)
-    → bytes_before_last_run session (steps ++ step ∷ []) ≡ (if is_run session step then bytes_to session steps else bytes_before_last_run session steps)
-last_run_more session steps step =
-    sym (turned_from_first session (steps ++ step ∷ [])) ∙ turned_more session [] [] steps step
-    ∙ ap (λ (l : List ℕ). if is_run session step then bytes_to session steps else l) (turned_from_first session steps)
-
--- the bytes and the moment after one step more
-bytes_more : (session : ℕ) (steps : List Step) (step : Step) → bytes_to session (steps ++ step ∷ []) ≡ bytes_to session steps ++ bytes_for session step
-bytes_more session [] step = append-nil (bytes_for session step)
-bytes_more session (first ∷ steps) step =
-    ap (λ (l : List ℕ). bytes_for session first ++ l) (bytes_more session steps step) ∙ sym (append_assoc (bytes_for session first) (bytes_to session steps) (bytes_for session step))
-
+-- the moment after one step more
 moment_more : (now : ℕ) (steps : List Step) (step : Step) → moment_after now (steps ++ step ∷ []) ≡ moment_with (moment_after now steps) step
 moment_more now [] step = refl
 moment_more now (first ∷ steps) step = moment_more (moment_with now first) steps step
@@ -63,25 +43,18 @@ played_more g p line (first ∷ steps) step =
 length_more : (steps : List Step) (step : Step) → 2 + length steps + 1 ≡ 2 + length (steps ++ step ∷ [])
 length_more steps step = let more : length (steps ++ step ∷ []) ≡ length steps + 1 = length-append steps (step ∷ []) in omega (arith, more)
 
--- what was so far played, and told of the sessions and the clock, is read off the steps before
-record Follows (g : Geometry) (p : Play) (line : ℕ) (before : List Step) (now : ℕ) (given turned : ℕ → List ℕ) : Type 0 where
+-- what was so far played, and told of the clock, is read off the steps before
+record Follows (g : Geometry) (p : Play) (line : ℕ) (before : List Step) (now : ℕ) : Type 0 where
   played : p ≡ play_of g before
   line_is : line ≡ 2 + length before
   now_is : now ≡ moment_after 0 before
-  given_is : (session : ℕ) → given session ≡ bytes_to session before
-  turned_is : (session : ℕ) → turned session ≡ bytes_before_last_run session before
 
-follows_more : (g : Geometry) (p : Play) (line : ℕ) (before : List Step) (now : ℕ) (given turned : ℕ → List ℕ) (step : Step) → Follows g p line before now given turned
-    → Follows g (play_step g p line step) (line + 1) (before ++ step ∷ []) (moment_with now step) (λ session. given session ++ bytes_for session step) (λ session. if is_run session step then given session else turned session)
-follows_more g p line before now given turned step was = record {
+follows_more : (g : Geometry) (p : Play) (line : ℕ) (before : List Step) (now : ℕ) (step : Step) → Follows g p line before now
+    → Follows g (play_step g p line step) (line + 1) (before ++ step ∷ []) (moment_with now step)
+follows_more g p line before now step was = record {
   played = λ i. (ap (λ (q : Play). play_step g q line step) was.played ∙ ap (λ n. play_step g (play_of g before) n step) was.line_is ∙ sym (played_more g first_play 2 before step)) i;
   line_is = ap (λ n. n + 1) was.line_is ∙ length_more before step;
   now_is = ap (λ n. moment_with n step) was.now_is ∙ sym (moment_more 0 before step);
-  given_is = λ session. ap (λ (l : List ℕ). l ++ bytes_for session step) (was.given_is session) ∙ sym (bytes_more session before step);
-  turned_is = λ session.
-      ap (λ (l : List ℕ). if is_run session step then l else turned session) (was.given_is session)
-      ∙ ap (λ (l : List ℕ). if is_run session step then bytes_to session before else l) (was.turned_is session)
-      ∙ sym (last_run_more session before step);
 }
 
 -- a line is printed unless something was done
@@ -102,39 +75,46 @@ clock_done c desk reading =
 
 module _ (laws : StepLaws) (byte_laws : ByteLaws) (g : Geometry) where
   -- bytes for a session
-  feed_printed : (before : List Step) (p : Play) (line session : ℕ) (bytes : List ℕ) (now : ℕ) (given turned : ℕ → List ℕ) → IsSession session → Holds g p now given turned → Follows g p line before now given turned
-      → (feed p line session bytes).printed ≡ p.printed ++ feed_prints g before line session
-  feed_printed before p line session bytes now given turned is was follows =
+  feed_printed : (before : List Step) (p : Play) (line session : ℕ) (bytes : List ℕ) → p ≡ play_of g before → (feed p line session bytes).printed ≡ p.printed ++ feed_prints g before line session
+  feed_printed before p line session bytes played =
       let seat = seat_at p session in
       printed_where seat.closed p.printed (with_seat p session seat) (with_seat p session (seat_with_more seat bytes)) (codes "closed") line refl refl
-      ∙ ap (λ closed. p.printed ++ (if closed then printed_line (codes "closed") line else []))
-      ((was.each session is).closed ∙ ap (λ (l : List ℕ). is_end (commands_of g.item_max l).place) (follows.turned_is session))
+      ∙ ap (λ (q : Play). p.printed ++ (if (seat_at q session).closed then printed_line (codes "closed") line else [])) played
+
+  -- a session's single turn
+  turn_printed : (p : Play) (line session : ℕ) (seat : Seat) (need : Need) → (turn_by g p line session seat need).printed ≡ p.printed ++ turn_prints line need
+  turn_printed p line session seat (Writes piece) = sym (append-nil p.printed)
+  turn_printed p line session seat (Does ask) = sym (append-nil p.printed)
+  turn_printed p line session seat Ends = line_text p.printed (codes "closed") line
+  turn_printed p line session seat Rests = line_text p.printed (codes "idle") line
 
   -- one step prints what is read off those before it
-  step_printed : (before : List Step) (p : Play) (line : ℕ) (step : Step) (now : ℕ) (given turned : ℕ → List ℕ) → IsSeated step → Holds g p now given turned → Follows g p line before now given turned
-      → (play_step g p line step).printed ≡ p.printed ++ step_prints g before line step
-  step_printed before p line (Clock reading) now given turned seated was follows =
+  step_printed : (before : List Step) (p : Play) (line : ℕ) (step : Step) (now : ℕ) → p.kept.cache.now ≡ now → Follows g p line before now → (play_step g p line step).printed ≡ p.printed ++ step_prints g before line step
+  step_printed before p line (Clock reading) now moment follows =
       let noted : Play = record p { kept = after_call p.kept (clock_call p.kept.cache p.kept.desk reading) } in
       printed_unless (clock_call p.kept.cache p.kept.desk reading).answer noted (codes "idle") line
       ∙ ap (λ done. p.printed ++ (if done then [] else printed_line (codes "idle") line))
-      (clock_done p.kept.cache p.kept.desk reading ∙ ap (λ n. nat_lt n (min reading (2 ^ 62))) (was.moment ∙ follows.now_is))
-  step_printed before p line (Say session bytes) now given turned seated was follows = feed_printed before p line session (bytes ++ 13 ∷ 10 ∷ []) now given turned seated was follows
-  step_printed before p line (Feed session bytes) now given turned seated was follows = feed_printed before p line session bytes now given turned seated was follows
-  step_printed before p line (Run session) now given turned seated was follows = sym (append-nil p.printed)
-  step_printed before p line (Keep kind) now given turned seated was follows =
+      (clock_done p.kept.cache p.kept.desk reading ∙ ap (λ n. nat_lt n (min reading (2 ^ 62))) (moment ∙ follows.now_is))
+  step_printed before p line (Say session bytes) now moment follows = feed_printed before p line session (bytes ++ 13 ∷ 10 ∷ []) follows.played
+  step_printed before p line (Feed session bytes) now moment follows = feed_printed before p line session bytes follows.played
+  step_printed before p line (Turn session) now moment follows =
+      turn_printed p line session (seat_at p session) (need_of g (seat_at p session))
+      ∙ ap (λ (q : Play). p.printed ++ turn_prints line (need_of g (seat_at q session))) follows.played
+  step_printed before p line (Run session) now moment follows = sym (append-nil p.printed)
+  step_printed before p line (Keep kind) now moment follows =
       let call = upkeep_call g p.kept.cache p.kept.desk kind in
       printed_unless call.answer (record p { kept = after_call p.kept call }) (codes "idle") line
       ∙ ap (λ (q : Play). p.printed ++ (if upkeep_does g q kind then [] else printed_line (codes "idle") line)) follows.played
 
   -- so do all steps
-  steps_printed : (before : List Step) (p : Play) (line : ℕ) (steps : List Step) (now : ℕ) (given turned : ℕ → List ℕ) → AreSeated steps → Holds g p now given turned → Follows g p line before now given turned
+  steps_printed : (before : List Step) (p : Play) (line : ℕ) (steps : List Step) (now : ℕ) (given turned : ℕ → List ℕ) (since : ℕ → Bool) → AreSeated steps → Holds g p now given turned since → Follows g p line before now
       → (play_from g p line steps).printed ≡ p.printed ++ steps_print g before line steps
-  steps_printed before p line [] now given turned seated was follows = sym (append-nil p.printed)
-  steps_printed before p line (step ∷ steps) now given turned seated was follows =
+  steps_printed before p line [] now given turned since seated was follows = sym (append-nil p.printed)
+  steps_printed before p line (step ∷ steps) now given turned since seated was follows =
       let next = play_step g p line step in
-      steps_printed (before ++ step ∷ []) next (line + 1) steps (moment_with now step) (λ session. given session ++ bytes_for session step) (λ session. if is_run session step then given session else turned session)
-      seated.1 (step_holds laws byte_laws g p line step now given turned seated.0 was) (follows_more g p line before now given turned step follows)
-      ∙ ap (λ (l : List ℕ). l ++ steps_print g (before ++ step ∷ []) (line + 1) steps) (step_printed before p line step now given turned seated.0 was follows)
+      steps_printed (before ++ step ∷ []) next (line + 1) steps (moment_with now step) (λ session. given session ++ bytes_for session step) (turned_by step given turned) (since_by step since)
+      seated.1 (step_holds laws byte_laws g p line step now given turned since seated.0 was) (follows_more g p line before now step follows)
+      ∙ ap (λ (l : List ℕ). l ++ steps_print g (before ++ step ∷ []) (line + 1) steps) (step_printed before p line step now was.moment follows)
       ∙ append_assoc p.printed (step_prints g before line step) (steps_print g (before ++ step ∷ []) (line + 1) steps)
 
 -- whether a session is made
@@ -170,6 +150,12 @@ module _ (g : Geometry) (session : ℕ) (is : IsSession session) where
       cond_both seat.closed (with_line (with_seat p other seat) (codes "closed") line) (with_seat p other (seat_with_more seat bytes)) (λ q. is_made q session ≡ is_made p session || nat_eq other session)
       (λ closed. made_with p other session seat sixteen is-other is) (λ takes. made_with p other session (seat_with_more seat bytes) sixteen is-other is)
 
+  turn_made : (p : Play) (line other : ℕ) (seat : Seat) (need : Need) → length p.seats ≡ 16 → IsSession other → is_made (turn_by g p line other seat need) session ≡ is_made p session || nat_eq other session
+  turn_made p line other seat (Writes piece) sixteen is-other = made_with p other session _ sixteen is-other is
+  turn_made p line other seat (Does ask) sixteen is-other = made_with p other session _ sixteen is-other is
+  turn_made p line other seat Ends sixteen is-other = made_with p other session _ sixteen is-other is
+  turn_made p line other seat Rests sixteen is-other = made_with p other session _ sixteen is-other is
+
   step_made : (p : Play) (line : ℕ) (step : Step) → length p.seats ≡ 16 → IsSeated step → is_made (play_step g p line step) session ≡ is_made p session || names session step
   step_made p line (Clock reading) sixteen seated =
       ap (λ (l : List (Option Seat)). is_some (option_flatten (slice_get l (session - 1)))) (seats_called p line (clock_call p.kept.cache p.kept.desk reading)) ∙ sym (or_false (is_made p session))
@@ -177,6 +163,7 @@ module _ (g : Geometry) (session : ℕ) (is : IsSession session) where
       ap (λ (l : List (Option Seat)). is_some (option_flatten (slice_get l (session - 1)))) (seats_called p line (upkeep_call g p.kept.cache p.kept.desk kind)) ∙ sym (or_false (is_made p session))
   step_made p line (Say other bytes) sixteen seated = feed_made p line other (bytes ++ 13 ∷ 10 ∷ []) sixteen seated
   step_made p line (Feed other bytes) sixteen seated = feed_made p line other bytes sixteen seated
+  step_made p line (Turn other) sixteen seated = turn_made p line other (seat_at p other) (need_of g (seat_at p other)) sixteen seated
   step_made p line (Run other) sixteen seated = made_with p other session _ sixteen seated is
 
   steps_made : (p : Play) (line : ℕ) (steps : List Step) → length p.seats ≡ 16 → AreSeated steps → is_made (play_from g p line steps) session ≡ is_made p session || list_any (names session) steps
@@ -198,6 +185,6 @@ none_made (suc n) (suc i) = none_made n i
 -- the law
 pub every_play_prints : StepLaws → ByteLaws → EveryPlayIsPrinted
 every_play_prints laws byte_laws = λ g steps seated. record {
-  printed = steps_printed laws byte_laws g [] first_play 2 steps 0 (λ session. []) (λ session. []) seated (first_holds laws byte_laws g) (record { played = refl; line_is = refl; now_is = refl; given_is = λ session. refl; turned_is = λ session. refl });
+  printed = steps_printed laws byte_laws g [] first_play 2 steps 0 (λ session. []) (λ session. []) (λ session. false) seated (first_holds laws byte_laws g) (record { played = refl; line_is = refl; now_is = refl });
   made = λ session is. steps_made g session is first_play 2 steps refl seated ∙ ap (λ b. b || list_any (names session) steps) (none_made 16 (session - 1));
 }

@@ -1,187 +1,144 @@
 -- Every script's journal is a run, and each of its sessions is answered by it.
-use Rattle.std.proofs.Common.{◌≡◌, ◌≢◌, ℕ, ◌+◌, ◌-◌, ◌^◌, Bool, true, false, List, [], ◌∷◌, ◌++◌, length, drop, if◌then◌else◌, refl, sym, ◌∙◌, ap, subst, arith, inl, inr, append_assoc}
+use Rattle.std.proofs.Common.{◌≡◌, ◌≢◌, ℕ, ◌+◌, ◌-◌, Bool, true, false, List, [], ◌∷◌, ◌++◌, length, drop, if◌then◌else◌, refl, sym, ◌∙◌, ap, subst, arith, append_assoc, Option}
 use Rattle.std.specs.FinMap as finite
 use Rattle.std.specs.Ordering.{nat_cmp}
 use Rattle.std.specs.Cmp.Lexicographic.{slice_cmp}
-use Rattle.std.specs.Prelude.{max, min, nat_eq, codes, None, Some}
-use Rattle.std.proofs.lemmas.Bool.{cases_eq, cond_both}
+use Rattle.std.specs.Prelude.{nat_eq, slice_get, ◌||◌, None, Some}
 use Rattle.std.proofs.lemmas.Bool.Decides.{nat_tests}
 use Rattle.std.proofs.lemmas.List.{append-nil}
 use Rattle.flash_names.specs.declared.geometry.Geometry.{Geometry}
 use Rattle.flash_entry.specs.declared.ask.Ask.{Ask}
-use Rattle.flash_entry.specs.declared.entry.Entry.{Entry}
 use Rattle.flash_entry.specs.declared.found.Told.{Told}
 use Rattle.flash_machine.specs.Cache.{Cache, first_cache}
 use Rattle.flash_index.specs.Listed.{IsListed}
-use Rattle.flash_core.specs.Store.{Call, first_desk}
-use Rattle.flash_core.specs.Calls.{clock_call}
-use Rattle.flash_answers.specs.Records.{AreOfNoStep}
+use Rattle.flash_core.specs.Store.{first_desk}
+use Rattle.flash_answers.specs.AskCalls.{ask_call}
 use Rattle.flash_answers.specs.InMemory.{AreHere}
-use Rattle.flash_commands.specs.declared.place.Place.{Place}
-use Rattle.flash_commands.specs.declared.place.Place.TheVariants.{InLine, InSkip, AtQuit, TooLong}
-use Rattle.flash_commands.specs.Laws.{IsEnd}
 use Rattle.flash_commands.specs.Parts.{Asked, Read}
 use Rattle.flash_commands.specs.Commands.{commands_of}
+use Rattle.flash_session.specs.Pieces.{next_piece}
 use Rattle.flash_session.specs.Talks.{talk_of, steps_of}
-use Rattle.flash_play.specs.declared.step.Upkeep.{Upkeep}
-use Rattle.flash_play.specs.declared.step.Upkeep.TheVariants.{Room, Reap, Juggle}
-use Rattle.flash_play.specs.Answers.{bytes_for, bytes_before_last_run, bytes_to, is_run, moment_after, moment_with, IsRight, EveryPlayIsRight}
-use Rattle.flash_play.specs.Numbers.{IsNumbered}
-use Rattle.flash_play.specs.Playing.{Seat, StoreState, Play, first_play, after_call, do_asks, seat_at, with_seat, with_line, seat_with_more, feed, seat_after_run, run, is_end, called, upkeep_call, play_step, play_from, play_of}
-use Rattle.flash_play.specs.Steps.{Step, Clock, Say, Feed, Run, Keep, IsSession, IsSeated, AreSeated}
+use Rattle.flash_play.specs.Answers.{bytes_for, bytes_before_last_run, bytes_to, is_run, is_turn, turned_since, moment_after, moment_with, IsRight, EveryPlayIsRight}
+use Rattle.flash_play.specs.Playing.{Seat, StoreState, Play, Need, Writes, Does, Ends, Rests, first_play, number_after, do_ask, do_asks, seat_at, with_seat, need_of, turn_by, turn, seat_after_run, run, is_end, play_step, play_from, play_of}
+use Rattle.flash_script.specs.Steps.{Step, Clock, Say, Feed, Turn, Run, Keep, IsSession, IsSeated, AreSeated}
 use Rattle.flash_play.proofs.BeforeLastRun.{turned_behind, turned_from_first}
-use Rattle.flash_play.proofs.Moments.{clock_moment, upkept_moment}
-use Rattle.flash_play.proofs.Numbering.{step_numbered, first_numbered, upkeep_none}
-use Rattle.flash_play.proofs.Seating.{seat_is, seat_same, seat_other, kept_called, seats_called, step_seats, nobody}
-use Rattle.flash_play.proofs.Serving.{StepLaws, number_laws, IsKept, Serves, none_keeps, served_behind, asks_serve, asks_serve_other, asks_moment}
-use Rattle.flash_play.proofs.UpTo.{ByteLaws, IsUpTo, steps_in, behind_all, at_end, given_none, more_up, closed_up, first_up, is_answered}
-
--- whatever was played: the store is kept, and each session is up to the bytes that it was given, and to those of its
--- last turn
-pub record Holds (g : Geometry) (p : Play) (now : ℕ) (given turned : ℕ → List ℕ) : Type 0 where
-  pub kept : IsKept g p.kept
-  pub moment : p.kept.cache.now ≡ now
-  pub sixteen : length p.seats ≡ 16
-  pub numbered : IsNumbered p
-  pub each : (session : ℕ) → IsSession session → IsUpTo g session (given session) (turned session) p.kept.journal (seat_at p session)
-
--- a place isn't an end and no end
-not_both : (place : Place) → IsEnd place → is_end place ≡ false → ⊥
-not_both AtQuit end free = cc free
-not_both TooLong end free = cc free
-not_both InLine end free = end
-not_both InSkip end free = end
+use Rattle.flash_play.proofs.Holding.{Holds, each_with, other_up, clock_holds, upkeep_holds, feed_holds}
+use Rattle.flash_play.proofs.Numbering.{step_numbered, first_numbered}
+use Rattle.flash_play.proofs.Seating.{step_seats, nobody}
+use Rattle.flash_play.proofs.Serving.{StepLaws, number_laws, IsKept, Serves, ask_serves, asks_serve, asks_moment}
+use Rattle.flash_play.proofs.Turning.{writes_a_piece, does_an_ask, ends_there, rests_there, not_both, wrote, did, ended, rested}
+use Rattle.flash_play.proofs.UpTo.{ByteLaws, IsUpTo, steps_in, pieces_in, behind_all, at_end, given_none, first_up, is_answered_so_far, is_answered}
 
 -- before the first entry no item is there
 first_here : AreHere first_cache.items
 first_here key item is = absurd (let none : None ≡ Some item = sym (finite.get-empty (slice_cmp nat_cmp) key) ∙ is in cc none)
 
--- the bytes that a step gives to another session
-other_bytes : (session other : ℕ) (bytes : List ℕ) → other ≢ session → bytes_for other (Feed session bytes) ≡ []
-other_bytes session other bytes differ =
-    let no : nat_eq session other ≡ false = grind (arith, nat_tests, differ) in ap (λ b. if b then bytes else []) no
+-- what each session was given before its last run, and whether it took single turns since, after a step more
+abbrev pub turned_by : Step → (ℕ → List ℕ) → (ℕ → List ℕ) → ℕ → List ℕ
+turned_by step given turned session = if is_run session step then given session else turned session
 
--- and those that it gives to the session itself
-own_bytes : (session : ℕ) (bytes : List ℕ) → bytes_for session (Feed session bytes) ≡ bytes
-own_bytes session bytes = let self : nat_eq session session ≡ true = grind (arith, nat_tests) in ap (λ b. if b then bytes else []) self
+abbrev pub since_by : Step → (ℕ → Bool) → ℕ → Bool
+since_by step since session = if is_run session step then false else is_turn session step || since session
 
 module _ (laws : StepLaws) (byte_laws : ByteLaws) (g : Geometry) where
-  -- the sessions after one was put in its place
-  each_with : (p p2 : Play) (session : ℕ) (seat : Seat) (given turned : ℕ → List ℕ) → length p.seats ≡ 16 → IsSession session → p2.seats ≡ (with_seat p session seat).seats
-      → IsUpTo g session (given session) (turned session) p2.kept.journal seat
-      → ((other : ℕ) → IsSession other → other ≢ session → IsUpTo g other (given other) (turned other) p2.kept.journal (seat_at p other))
-      → (other : ℕ) → IsSession other → IsUpTo g other (given other) (turned other) p2.kept.journal (seat_at p2 other)
-  each_with p p2 session seat given turned sixteen is seats own others other is_other = elim (cases_eq other session) [
-    | inl same ↦
-        subst (λ (n : ℕ). IsUpTo g n (given n) (turned n) p2.kept.journal (seat_at p2 n)) (sym same)
-        (subst (IsUpTo g session (given session) (turned session) p2.kept.journal) (sym (seat_same p p2 session seat sixteen is seats)) own)
-    | inr differ ↦ subst (IsUpTo g other (given other) (turned other) p2.kept.journal) (sym (seat_other p p2 session seat sixteen is seats other is_other differ)) (others other is_other differ)
-  ]
+  -- a session's single turn
+  module _ (p : Play) (line session now : ℕ) (given turned : ℕ → List ℕ) (since : ℕ → Bool) (was : Holds g p now given turned since) (is : IsSession session) where
+    abbrev turner : Seat
+    turner = seat_at p session
 
-  -- entries of no step leave a session up to its bytes
-  behind_up : (session : ℕ) (h es : List Entry) (given turned : List ℕ) (seat : Seat) → AreOfNoStep es → IsUpTo g session given turned h seat → IsUpTo g session given turned (h ++ es) seat
-  behind_up session h es given turned seat none up = record {
-    has = up.has;
-    alike = up.alike;
-    ended = up.ended;
-    later = up.later;
-    later_are = up.later_are;
-    served = served_behind laws g session h es (steps_in g turned) seat.told (none_keeps session (steps_in g turned) es none) up.served;
-    replies = up.replies;
-    closed = up.closed;
-  }
+    abbrev turner_up : IsUpTo g session (given session) (turned session) (since session) p.kept.journal turner
+    turner_up = was.each session is
 
-  -- a call that no session makes leaves each session up to its bytes
-  call_each : (p : Play) (line : ℕ) (call : Call Bool) (now : ℕ) (given turned : ℕ → List ℕ) → AreOfNoStep call.entries → Holds g p now given turned → (session : ℕ) → IsSession session
-      → IsUpTo g session (given session) (turned session) (called p line call).kept.journal (seat_at (called p line call) session)
-  call_each p line call now given turned none was session is =
-      let seat = seat_at p session in
-      let there : seat ≡ seat_at (called p line call) session = sym (seat_is p (called p line call) session (seats_called p line call)) in
-      let after = behind_up session p.kept.journal call.entries (given session) (turned session) seat none (was.each session is) in
-      subst (λ (k : StoreState). IsUpTo g session (given session) (turned session) k.journal (seat_at (called p line call) session)) (sym (kept_called p line call))
-      (subst (IsUpTo g session (given session) (turned session) (after_call p.kept call).journal) there after)
+    -- the piece and the step that are next, and whether the bytes have an end
+    abbrev piece_there : Option (List ℕ)
+    piece_there = next_piece g.item_max turner.given turner.told turner.replies
 
-  -- a reading of the clock
-  clock_holds : (p : Play) (line reading now : ℕ) (given turned : ℕ → List ℕ) → Holds g p now given turned
-      → Holds g (play_step g p line (Clock reading)) (max now (min reading (2 ^ 62))) (λ session. given session ++ []) turned
-  clock_holds p line reading now given turned was =
-      let c = p.kept.cache in
-      let call = clock_call c p.kept.desk reading in
-      let other = (laws.others g c p.kept.desk).clock reading in record {
-        moment = ap (λ (k : StoreState). k.cache.now) (kept_called p line call) ∙ clock_moment c p.kept.desk reading ∙ ap (λ n. max n (min reading (2 ^ 62))) was.moment;
-        kept = subst (IsKept g) (sym (kept_called p line call)) (record { running = laws.clock g c p.kept.journal p.kept.desk reading was.kept.running; here = other.here was.kept.here });
-        sixteen = step_seats g p line (Clock reading) was.sixteen;
-        numbered = step_numbered (number_laws laws) g p line (Clock reading) was.sixteen tt was.numbered;
-        each = λ session is. given_none byte_laws g session (given session) [] (turned session) (called p line call).kept.journal (seat_at (called p line call) session) refl
-            (call_each p line call now given turned other.entries was session is);
-      }
+    abbrev ask_there : Option Ask
+    ask_there = slice_get (steps_in g turner.given) (length turner.told)
 
-  -- upkeep of the store keeps it
-  upkept : (p : Play) (kind : Upkeep) → IsKept g p.kept → IsKept g (after_call p.kept (upkeep_call g p.kept.cache p.kept.desk kind))
-  upkept p Room was = record { running = laws.room g p.kept.cache p.kept.journal p.kept.desk was.running; here = (laws.others g p.kept.cache p.kept.desk).room.here was.here }
-  upkept p Reap was = record { running = laws.reaping g p.kept.cache p.kept.journal p.kept.desk was.running; here = (laws.others g p.kept.cache p.kept.desk).reap.here was.here }
-  upkept p Juggle was = record { running = laws.juggling g p.kept.cache p.kept.journal p.kept.desk was.running; here = (laws.others g p.kept.cache p.kept.desk).juggle.here was.here }
+    abbrev end_there : Bool
+    end_there = is_end (commands_of g.item_max turner.given).place
 
-  upkeep_holds : (p : Play) (line : ℕ) (kind : Upkeep) (now : ℕ) (given turned : ℕ → List ℕ) → Holds g p now given turned
-      → Holds g (play_step g p line (Keep kind)) now (λ session. given session ++ []) turned
-  upkeep_holds p line kind now given turned was =
-      let call = upkeep_call g p.kept.cache p.kept.desk kind in record {
-        moment = ap (λ (k : StoreState). k.cache.now) (kept_called p line call) ∙ upkept_moment g p.kept.cache p.kept.desk kind ∙ was.moment;
-        kept = subst (IsKept g) (sym (kept_called p line call)) (upkept p kind was.kept);
-        sixteen = step_seats g p line (Keep kind) was.sixteen;
-        numbered = step_numbered (number_laws laws) g p line (Keep kind) was.sixteen tt was.numbered;
-        each = λ session is. given_none byte_laws g session (given session) [] (turned session) (called p line call).kept.journal (seat_at (called p line call) session) refl
-            (call_each p line call now given turned (upkeep_none (number_laws laws) g p kind) was session is);
-      }
+    -- which sessions took single turns with it
+    abbrev since_then : ℕ → Bool
+    since_then other = nat_eq session other || since other
 
-  -- bytes for a session
-  module _ (p : Play) (line session : ℕ) (bytes : List ℕ) (now : ℕ) (given turned : ℕ → List ℕ) (was : Holds g p now given turned) (is : IsSession session) where
-    -- what each session was given with them
-    abbrev after_feed : ℕ → List ℕ
-    after_feed other = given other ++ bytes_for other (Feed session bytes)
+    -- each session, where this one was left so
+    turn_each : (p2 : Play) (seat : Seat) → p2.seats ≡ (with_seat p session seat).seats → IsUpTo g session (given session) (turned session) true p2.kept.journal seat
+        → ((other : ℕ) → IsSession other → other ≢ session → IsUpTo g other (given other) (turned other) (since other) p2.kept.journal (seat_at p other))
+        → (other : ℕ) → IsSession other → IsUpTo g other (given other ++ []) (turned other) (since_then other) p2.kept.journal (seat_at p2 other)
+    turn_each p2 seat seats own others other is_other =
+        let self : nat_eq session session ≡ true = grind (arith, nat_tests) in
+        let turns : since_then session ≡ true = ap (λ b. b || since session) self in
+        given_none byte_laws g other (given other) [] (turned other) (since_then other) p2.kept.journal (seat_at p2 other) refl
+        (each_with laws g p p2 session seat given turned since_then was.sixteen is seats
+        (subst (λ (b : Bool). IsUpTo g session (given session) (turned session) b p2.kept.journal seat) (sym turns) own)
+        (λ third is_third differ.
+        let no : nat_eq session third ≡ false = grind (arith, nat_tests, differ) in
+        subst (λ (b : Bool). IsUpTo g third (given third) (turned third) (b || since third) p2.kept.journal (seat_at p third)) (sym no) (others third is_third differ))
+        other is_other)
 
-    -- the session itself
-    feed_own : (seat : Seat) → IsUpTo g session (given session ++ bytes) (turned session) p.kept.journal seat → IsUpTo g session (after_feed session) (turned session) p.kept.journal seat
-    feed_own seat up = subst (λ (more : List ℕ). IsUpTo g session (given session ++ more) (turned session) p.kept.journal seat) (sym (own_bytes session bytes)) up
+    -- a turn that does no step
+    turn_without : (p2 : Play) (seat : Seat) → p2.kept ≡ p.kept → p2.seats ≡ (with_seat p session seat).seats → IsUpTo g session (given session) (turned session) true p.kept.journal seat
+        → (other : ℕ) → IsSession other → IsUpTo g other (given other ++ []) (turned other) (since_then other) p2.kept.journal (seat_at p2 other)
+    turn_without p2 seat kept seats own =
+        turn_each p2 seat seats (subst (λ (k : StoreState). IsUpTo g session (given session) (turned session) true k.journal seat) (sym kept) own)
+        (λ other is_other differ. subst (λ (k : StoreState). IsUpTo g other (given other) (turned other) (since other) k.journal (seat_at p other)) (sym kept) (was.each other is_other))
 
-    -- and the others
-    feed_others : (other : ℕ) → IsSession other → other ≢ session → IsUpTo g other (after_feed other) (turned other) p.kept.journal (seat_at p other)
-    feed_others other is_other differ =
-        given_none byte_laws g other (given other) (bytes_for other (Feed session bytes)) (turned other) p.kept.journal (seat_at p other) (other_bytes session other bytes differ) (was.each other is_other)
+    abbrev before_ask : StoreState × List Told
+    before_ask = (p.kept, turner.told)
 
-    -- where the session is closed, and where it takes them
-    abbrev closed : Play
-    closed = with_line (with_seat p session (seat_at p session)) (codes "closed") line
+    -- one that does a step
+    module _ (ask : Ask) (next : ask_there ≡ Some ask) where
+      abbrev after_ask : StoreState × List Told
+      after_ask = do_ask g session before_ask ask
 
-    abbrev takes : Play
-    takes = with_seat p session (seat_with_more (seat_at p session) bytes)
+      ask_served : Serves laws g session after_ask (turner_up.done ++ ask ∷ [])
+      ask_served = ask_serves laws g session before_ask turner_up.done ask (record { kept = was.kept; new = was.numbered session is; served = turner_up.served })
 
-    -- both ways each session is up to its bytes
-    abbrev AllAreUp : Play → Type 0
-    AllAreUp q = (other : ℕ) → IsSession other → IsUpTo g other (after_feed other) (turned other) q.kept.journal (seat_at q other)
+      does_each : (other : ℕ) → IsSession other → IsUpTo g other (given other ++ []) (turned other) (since_then other) after_ask.0.journal (seat_at (turn_by g p line session turner (Does ask)) other)
+      does_each =
+          turn_each (turn_by g p line session turner (Does ask)) (record turner { told = after_ask.1 }) refl
+          (did byte_laws g session (given session) (turned session) (since session) p.kept.journal turner turner_up after_ask.0.journal ask (ask_call g p.kept.cache p.kept.desk (number_after session turner.told) ask).answer next ask_served.served)
+          (λ other is_other differ. other_up laws g session other before_ask (ask ∷ []) (given other) (turned other) (since other) (seat_at p other) differ (was.each other is_other))
 
-    closed_holds : (seat_at p session).closed ≡ true → AllAreUp closed
-    closed_holds is_closed =
-        let seat = seat_at p session in
-        each_with p closed session seat after_feed turned was.sixteen is refl (feed_own seat (closed_up byte_laws g session (given session) bytes (turned session) p.kept.journal seat is_closed (was.each session is))) feed_others
+    -- what it leaves, by what it was
+    turn_kept : (need : Need) → need_of g turner ≡ need → IsKept g (turn_by g p line session turner need).kept
+    turn_kept (Writes piece) same = was.kept
+    turn_kept (Does ask) same = (ask_served ask (does_an_ask piece_there ask_there end_there ask same)).kept
+    turn_kept Ends same = was.kept
+    turn_kept Rests same = was.kept
 
-    takes_holds : (seat_at p session).closed ≡ false → AllAreUp takes
-    takes_holds is_open =
-        let seat = seat_at p session in
-        each_with p takes session (seat_with_more seat bytes) after_feed turned was.sixteen is refl
-        (feed_own (seat_with_more seat bytes) (more_up byte_laws g session (given session) bytes (turned session) p.kept.journal seat is_open (was.each session is))) feed_others
+    turn_moment : (need : Need) → (turn_by g p line session turner need).kept.cache.now ≡ now
+    turn_moment (Writes piece) = was.moment
+    turn_moment (Does ask) = laws.moment g p.kept.cache p.kept.desk (number_after session turner.told) ask ∙ was.moment
+    turn_moment Ends = was.moment
+    turn_moment Rests = was.moment
 
-    feed_holds : Holds g (feed p line session bytes) now after_feed turned
-    feed_holds = record {
-      moment = cond_both (seat_at p session).closed closed takes (λ q. q.kept.cache.now ≡ now) (λ is_closed. was.moment) (λ free. was.moment);
-      kept = cond_both (seat_at p session).closed closed takes (λ q. IsKept g q.kept) (λ is_closed. was.kept) (λ free. was.kept);
-      sixteen = step_seats g p line (Feed session bytes) was.sixteen;
-      numbered = step_numbered (number_laws laws) g p line (Feed session bytes) was.sixteen is was.numbered;
-      each = cond_both (seat_at p session).closed closed takes AllAreUp closed_holds takes_holds;
+    turn_all : (need : Need) → need_of g turner ≡ need → (other : ℕ) → IsSession other
+        → IsUpTo g other (given other ++ []) (turned other) (since_then other) (turn_by g p line session turner need).kept.journal (seat_at (turn_by g p line session turner need) other)
+    turn_all (Writes piece) same =
+        turn_without (turn_by g p line session turner (Writes piece)) (record turner { replies = turner.replies ++ piece }) refl refl
+        (wrote byte_laws g session (given session) (turned session) (since session) p.kept.journal turner turner_up piece (writes_a_piece piece_there ask_there end_there piece same))
+    turn_all (Does ask) same = does_each ask (does_an_ask piece_there ask_there end_there ask same)
+    turn_all Ends same =
+        turn_without (turn_by g p line session turner Ends) (record turner { closed = true }) refl refl
+        (ended byte_laws g session (given session) (turned session) (since session) p.kept.journal turner turner_up (ends_there piece_there ask_there end_there same))
+    turn_all Rests same =
+        turn_without (turn_by g p line session turner Rests) (record turner { closed = false }) refl refl
+        (rested byte_laws g session (given session) (turned session) (since session) p.kept.journal turner turner_up (rests_there piece_there ask_there end_there same))
+
+    turn_holds : Holds g (turn g p line session) now (λ other. given other ++ []) turned since_then
+    turn_holds = record {
+      moment = turn_moment (need_of g turner);
+      kept = turn_kept (need_of g turner) refl;
+      sixteen = step_seats g p line (Turn session) was.sixteen;
+      numbered = step_numbered (number_laws laws) g p line (Turn session) was.sixteen is was.numbered;
+      each = turn_all (need_of g turner) refl;
     }
 
-  -- a session's turn
-  module _ (p : Play) (line session now : ℕ) (given turned : ℕ → List ℕ) (was : Holds g p now given turned) (is : IsSession session) where
+  -- all turns of a session
+  module _ (p : Play) (line session now : ℕ) (given turned : ℕ → List ℕ) (since : ℕ → Bool) (was : Holds g p now given turned since) (is : IsSession session) where
     abbrev seat : Seat
     seat = seat_at p session
 
@@ -194,27 +151,28 @@ module _ (laws : StepLaws) (byte_laws : ByteLaws) (g : Geometry) where
     abbrev after : StoreState × List Told
     after = do_asks g session before (drop (length seat.told) (steps_of read.asked))
 
-    -- what each session was given before its last turn
-    abbrev after_turn : ℕ → List ℕ
-    after_turn other = if is_run other (Run session) then given other else turned other
+    -- what each session was given before its last run, and whether it took single turns since
+    abbrev after_run : ℕ → List ℕ
+    after_run other = if is_run other (Run session) then given other else turned other
 
-    abbrev up : IsUpTo g session (given session) (turned session) p.kept.journal seat
+    abbrev after_since : ℕ → Bool
+    after_since other = if is_run other (Run session) then false else since other
+
+    abbrev up : IsUpTo g session (given session) (turned session) (since session) p.kept.journal seat
     up = was.each session is
 
     -- the steps that it hasn't done
     left_are : drop (length seat.told) (steps_of read.asked) ≡ up.later
-    left_are =
-        ap (λ (l : List Ask). drop (length seat.told) l) up.later_are ∙ behind_all (steps_in g (turned session)) up.later (length seat.told) up.served.count
+    left_are = ap (λ (l : List Ask). drop (length seat.told) l) up.later_are ∙ behind_all up.done up.later (length seat.told) up.served.count
 
     -- with them it has done all that its bytes ask
-    all_done : steps_in g (turned session) ++ drop (length seat.told) (steps_of read.asked) ≡ steps_in g (given session)
-    all_done =
-        ap (λ (l : List Ask). steps_in g (turned session) ++ l) left_are ∙ sym up.later_are ∙ ap steps_of (sym up.alike.asked)
+    all_done : up.done ++ drop (length seat.told) (steps_of read.asked) ≡ steps_in g (given session)
+    all_done = ap (λ (l : List Ask). up.done ++ l) left_are ∙ sym up.later_are ∙ ap steps_of (sym up.alike.asked)
 
     run_serves : Serves laws g session after (steps_in g (given session))
     run_serves =
         subst (Serves laws g session after) all_done
-        (asks_serve laws g session before (steps_in g (turned session)) (drop (length seat.told) (steps_of read.asked)) (record { kept = was.kept; new = was.numbered session is; served = up.served }))
+        (asks_serve laws g session before up.done (drop (length seat.told) (steps_of read.asked)) (record { kept = was.kept; new = was.numbered session is; served = up.served }))
 
     -- a closed session had met the end before
     run_has : is_end read.place ≡ false → seat.given ≡ given session
@@ -224,97 +182,95 @@ module _ (laws : StepLaws) (byte_laws : ByteLaws) (g : Geometry) where
         has_by false is_open = up.has is_open
         has_by true is_closed = absurd (not_both read.place (up.ended is_closed) free)
 
-    run_own : IsUpTo g session (given session) (given session) after.0.journal (seat_after_run seat read after.1)
+    run_own : IsUpTo g session (given session) (given session) false after.0.journal (seat_after_run seat read after.1)
     run_own = record {
       has = run_has;
       alike = up.alike;
       ended = λ closed. at_end read.place closed;
+      done = steps_in g (given session);
       later = [];
       later_are = ap steps_of (sym up.alike.asked) ∙ sym (append-nil (steps_in g (given session)));
       served = run_serves.served;
-      replies = ap (λ (asked : List Asked). (talk_of asked after.1).replies) (sym up.alike.asked);
-      closed = ap is_end (sym up.alike.place);
+      said = pieces_in g seat.given after.1;
+      unsaid = [];
+      unsaid_are = sym (append-nil (pieces_in g seat.given after.1));
+      replied = sym (byte_laws.joined_are read.asked after.1);
+      exact = λ none. record {
+        served = run_serves.served;
+        replied = ap (λ (asked : List Asked). (talk_of asked after.1).replies) (sym up.alike.asked);
+        is_closed = ap is_end (sym up.alike.place);
+      };
     }
 
     -- it is up to its bytes
-    run_turned : IsUpTo g session (given session) (after_turn session) after.0.journal (seat_after_run seat read after.1)
+    run_turned : IsUpTo g session (given session) (after_run session) (after_since session) after.0.journal (seat_after_run seat read after.1)
     run_turned =
         let self : nat_eq session session ≡ true = grind (arith, nat_tests) in
-        let turns : after_turn session ≡ given session = ap (λ b. if b then given session else turned session) self in
-        subst (λ (l : List ℕ). IsUpTo g session (given session) l after.0.journal (seat_after_run seat read after.1)) (sym turns) run_own
+        subst (λ (b : Bool). IsUpTo g session (given session) (if b then given session else turned session) (if b then false else since session) after.0.journal (seat_after_run seat read after.1)) (sym self) run_own
 
     -- and each other is where it was
-    run_others : (other : ℕ) → IsSession other → other ≢ session → IsUpTo g other (given other) (after_turn other) after.0.journal (seat_at p other)
+    run_others : (other : ℕ) → IsSession other → other ≢ session → IsUpTo g other (given other) (after_run other) (after_since other) after.0.journal (seat_at p other)
     run_others other is_other differ =
-        let own = was.each other is_other in
         let no : nat_eq session other ≡ false = grind (arith, nat_tests, differ) in
-        let turns : after_turn other ≡ turned other = ap (λ b. if b then given other else turned other) no in
-        let theirs = seat_at p other in
-        subst (λ (l : List ℕ). IsUpTo g other (given other) l after.0.journal theirs) (sym turns)
-        (record {
-          has = own.has;
-          alike = own.alike;
-          ended = own.ended;
-          later = own.later;
-          later_are = own.later_are;
-          served = asks_serve_other laws g session other before (drop (length seat.told) (steps_of read.asked)) (steps_in g (turned other)) theirs.told differ own.served;
-          replies = own.replies;
-          closed = own.closed;
-        })
+        subst (λ (b : Bool). IsUpTo g other (given other) (if b then given other else turned other) (if b then false else since other) after.0.journal (seat_at p other)) (sym no)
+        (other_up laws g session other before (drop (length seat.told) (steps_of read.asked)) (given other) (turned other) (since other) (seat_at p other) differ (was.each other is_other))
 
-    run_holds : Holds g (run g p session) now (λ other. given other ++ []) after_turn
+    run_holds : Holds g (run g p session) now (λ other. given other ++ []) after_run after_since
     run_holds = record {
       moment = asks_moment laws g session before (drop (length seat.told) (steps_of read.asked)) ∙ was.moment;
       kept = run_serves.kept;
       sixteen = step_seats g p line (Run session) was.sixteen;
       numbered = step_numbered (number_laws laws) g p line (Run session) was.sixteen is was.numbered;
-      each = λ other is_other. given_none byte_laws g other (given other) [] (after_turn other) after.0.journal (seat_at (run g p session) other) refl
-          (each_with p (run g p session) session (seat_after_run seat read after.1) given after_turn was.sixteen is refl run_turned run_others other is_other);
+      each = λ other is_other. given_none byte_laws g other (given other) [] (after_run other) (after_since other) after.0.journal (seat_at (run g p session) other) refl
+          (each_with laws g p (run g p session) session (seat_after_run seat read after.1) given after_run after_since was.sixteen is refl run_turned run_others other is_other);
     }
 
   -- each step keeps all of it
-  pub step_holds : (p : Play) (line : ℕ) (step : Step) (now : ℕ) (given turned : ℕ → List ℕ) → IsSeated step → Holds g p now given turned
-      → Holds g (play_step g p line step) (moment_with now step) (λ session. given session ++ bytes_for session step) (λ session. if is_run session step then given session else turned session)
-  step_holds p line (Clock reading) now given turned seated was = clock_holds p line reading now given turned was
-  step_holds p line (Say session bytes) now given turned seated was = feed_holds p line session (bytes ++ 13 ∷ 10 ∷ []) now given turned was seated
-  step_holds p line (Feed session bytes) now given turned seated was = feed_holds p line session bytes now given turned was seated
-  step_holds p line (Keep kind) now given turned seated was = upkeep_holds p line kind now given turned was
-  step_holds p line (Run session) now given turned seated was = run_holds p line session now given turned was seated
+  pub step_holds : (p : Play) (line : ℕ) (step : Step) (now : ℕ) (given turned : ℕ → List ℕ) (since : ℕ → Bool) → IsSeated step → Holds g p now given turned since
+      → Holds g (play_step g p line step) (moment_with now step) (λ session. given session ++ bytes_for session step) (turned_by step given turned) (since_by step since)
+  step_holds p line (Clock reading) now given turned since seated was = clock_holds laws g byte_laws p line reading now given turned since was
+  step_holds p line (Say session bytes) now given turned since seated was = feed_holds laws g byte_laws p line session (bytes ++ 13 ∷ 10 ∷ []) now given turned since was seated
+  step_holds p line (Feed session bytes) now given turned since seated was = feed_holds laws g byte_laws p line session bytes now given turned since was seated
+  step_holds p line (Keep kind) now given turned since seated was = upkeep_holds laws g byte_laws p line kind now given turned since was
+  step_holds p line (Turn session) now given turned since seated was = turn_holds p line session now given turned since was seated
+  step_holds p line (Run session) now given turned since seated was = run_holds p line session now given turned since was seated
 
   -- and so do all steps
-  steps_hold : (p : Play) (line : ℕ) (steps : List Step) (now : ℕ) (given turned : ℕ → List ℕ) → AreSeated steps → Holds g p now given turned
-      → Holds g (play_from g p line steps) (moment_after now steps) (λ session. given session ++ bytes_to session steps) (λ session. turned_behind session (given session) (turned session) steps)
-  steps_hold p line [] now given turned seated was = subst (λ (given : ℕ → List ℕ). Holds g p now given turned) (λ j session. sym (append-nil (given session)) j) was
-  steps_hold p line (step ∷ steps) now given turned seated was =
-      let more = λ (session : ℕ). if is_run session step then given session else turned session in
-      let after = steps_hold (play_step g p line step) (line + 1) steps (moment_with now step) (λ session. given session ++ bytes_for session step) more seated.1 (step_holds p line step now given turned seated.0 was) in
+  steps_hold : (p : Play) (line : ℕ) (steps : List Step) (now : ℕ) (given turned : ℕ → List ℕ) (since : ℕ → Bool) → AreSeated steps → Holds g p now given turned since
+      → Holds g (play_from g p line steps) (moment_after now steps) (λ session. given session ++ bytes_to session steps) (λ session. turned_behind session (given session) (turned session) steps) (λ session. turned_since session (since session) steps)
+  steps_hold p line [] now given turned since seated was = subst (λ (given : ℕ → List ℕ). Holds g p now given turned since) (λ j session. sym (append-nil (given session)) j) was
+  steps_hold p line (step ∷ steps) now given turned since seated was =
+      let after = steps_hold (play_step g p line step) (line + 1) steps (moment_with now step) (λ session. given session ++ bytes_for session step) (turned_by step given turned) (since_by step since) seated.1 (step_holds p line step now given turned since seated.0 was) in
       let with_more = λ (session : ℕ). turned_behind session (given session) (turned session) (step ∷ steps) in
-      subst (λ (all : ℕ → List ℕ). Holds g (play_from g p line (step ∷ steps)) (moment_after now (step ∷ steps)) all with_more) (λ j session. append_assoc (given session) (bytes_for session step) (bytes_to session steps) j) after
+      let turns = λ (session : ℕ). turned_since session (since session) (step ∷ steps) in
+      subst (λ (all : ℕ → List ℕ). Holds g (play_from g p line (step ∷ steps)) (moment_after now (step ∷ steps)) all with_more turns) (λ j session. append_assoc (given session) (bytes_for session step) (bytes_to session steps) j) after
 
   -- before the first step
   first_listed : IsListed first_cache.items first_desk.lists
   first_listed = laws.none
 
-  pub first_holds : Holds g first_play 0 (λ session. []) (λ session. [])
+  pub first_holds : Holds g first_play 0 (λ session. []) (λ session. []) (λ session. false)
   first_holds = record {
     moment = refl;
     kept = record { running = record { run = record { legal = tt; same = refl }; listed = first_listed; unopened = tt }; here = first_here };
     sixteen = refl;
     numbered = first_numbered;
-    each = λ session is. subst (IsUpTo g session [] [] []) (sym (nobody 16 (session - 1))) (first_up byte_laws g session);
+    each = λ session is. subst (IsUpTo g session [] [] false []) (sym (nobody 16 (session - 1))) (first_up byte_laws g session);
   }
 
   -- a script whose steps have a session each
   is_right : (steps : List Step) → AreSeated steps → IsRight g steps
   is_right steps seated =
-      let all = steps_hold first_play 2 steps 0 (λ session. []) (λ session. []) seated first_holds in record {
+      let all = steps_hold first_play 2 steps 0 (λ session. []) (λ session. []) (λ session. false) seated first_holds in
+      let journal = (play_of g steps).kept.journal in record {
         legal = all.kept.running.run.legal;
         moment = ap (λ (c : Cache). c.now) (sym all.kept.running.run.same) ∙ all.moment;
-        answered = λ session is.
-            let journal = (play_of g steps).kept.journal in
+        so_far = λ session is.
+            is_answered_so_far byte_laws g session (bytes_to session steps) (turned_behind session [] [] steps) (turned_since session false steps) journal (seat_at (play_of g steps) session) (all.each session is);
+        answered = λ session is none.
             let seat = seat_at (play_of g steps) session in
-            is_answered byte_laws g session (bytes_to session steps) (bytes_before_last_run session steps) journal seat
-            (subst (λ (turns : List ℕ). IsUpTo g session (bytes_to session steps) turns journal seat) (turned_from_first session steps) (all.each session is));
+            is_answered byte_laws g session (bytes_to session steps) (bytes_before_last_run session steps) (turned_since session false steps) journal seat none
+            (subst (λ (turns : List ℕ). IsUpTo g session (bytes_to session steps) turns (turned_since session false steps) journal seat) (turned_from_first session steps) (all.each session is));
       }
 
 -- the law

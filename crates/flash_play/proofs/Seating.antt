@@ -4,9 +4,9 @@ use Rattle.std.specs.Prelude.{slice_get, codes, replicate}
 use Rattle.std.proofs.lemmas.Bool.{cond_both}
 use Rattle.flash_names.specs.declared.geometry.Geometry.{Geometry}
 use Rattle.flash_core.specs.Store.{Call}
-use Rattle.flash_play.specs.Playing.{Seat, Play, new_seat, after_call, seat_at, seat_or_new, with_seat, with_line, seat_with_more, feed, called, play_step, upkeep_call}
+use Rattle.flash_play.specs.Playing.{Seat, Play, Need, Writes, Does, Ends, Rests, need_of, turn_by, new_seat, after_call, seat_at, seat_or_new, with_seat, with_line, seat_with_more, feed, called, play_step, upkeep_call}
 use Rattle.flash_core.specs.Calls.{clock_call}
-use Rattle.flash_play.specs.Steps.{Step, Clock, Say, Feed, Run, Keep, IsSession}
+use Rattle.flash_script.specs.Steps.{Step, Clock, Say, Feed, Turn, Run, Keep, IsSession}
 use Rattle.flash_play.proofs.Lists.{get-set_same, get-set_other}
 
 -- the same places have the same sessions
@@ -44,12 +44,19 @@ feed_seats p line session bytes sixteen =
     cond_both seat.closed (with_line (with_seat p session seat) (codes "closed") line) (with_seat p session (seat_with_more seat bytes)) (λ q. length q.seats ≡ 16)
     (λ closed. seats_with p session seat sixteen) (λ reads. seats_with p session (seat_with_more seat bytes) sixteen)
 
+turn_seats : (g : Geometry) (p : Play) (line session : ℕ) (seat : Seat) (need : Need) → length p.seats ≡ 16 → length (turn_by g p line session seat need).seats ≡ 16
+turn_seats g p line session seat (Writes piece) sixteen = length-set p.seats (session - 1) _ ∙ sixteen
+turn_seats g p line session seat (Does ask) sixteen = length-set p.seats (session - 1) _ ∙ sixteen
+turn_seats g p line session seat Ends sixteen = length-set p.seats (session - 1) _ ∙ sixteen
+turn_seats g p line session seat Rests sixteen = length-set p.seats (session - 1) _ ∙ sixteen
+
 -- each step keeps the sixteen places
 pub step_seats : (g : Geometry) (p : Play) (line : ℕ) (step : Step) → length p.seats ≡ 16 → length (play_step g p line step).seats ≡ 16
 step_seats g p line (Clock reading) sixteen = ap (λ (l : List (Option Seat)). length l) (seats_called p line (clock_call p.kept.cache p.kept.desk reading)) ∙ sixteen
 step_seats g p line (Keep kind) sixteen = ap (λ (l : List (Option Seat)). length l) (seats_called p line (upkeep_call g p.kept.cache p.kept.desk kind)) ∙ sixteen
 step_seats g p line (Say session bytes) sixteen = feed_seats p line session (bytes ++ 13 ∷ 10 ∷ []) sixteen
 step_seats g p line (Feed session bytes) sixteen = feed_seats p line session bytes sixteen
+step_seats g p line (Turn session) sixteen = turn_seats g p line session (seat_at p session) (need_of g (seat_at p session)) sixteen
 step_seats g p line (Run session) sixteen = length-set p.seats (session - 1) _ ∙ sixteen
 
 -- no session is made where each place is empty

@@ -25,6 +25,7 @@ use Rattle.flash_answers.specs.Laws.{EachAskGoesOn, EachAskIsTold, EachAskRecord
 use Rattle.flash_answers.specs.Outcomes.{outcome_from, or_no_memory, outcome, outcomes, HasEntry}
 use Rattle.flash_answers.specs.Records.{entry_ask, IsOf, AreOf, AreOfNoStep, IsOneOf, Keeps}
 use Rattle.flash_session.specs.Talks.{ends_command}
+use Rattle.flash_play.specs.Laws.{EachAnswerHadMemory}
 use Rattle.flash_play.specs.Playing.{StoreState, number_after, do_ask, do_asks}
 use Rattle.flash_play.proofs.Lists.{all_map, all_append, get-front, get-seam}
 
@@ -72,14 +73,14 @@ found_had found.Miss = refl
 found_had (found.Head head) = refl
 found_had (found.Here hit) = refl
 
-had_memory : (g : Geometry) (k : StoreState) (id : Id) (ask : Ask) → ends_command (ask_call g k.cache k.desk id ask).answer ≡ false
-had_memory g k id (asks.Look key look) = found_had (look_call k.cache k.desk id key look).answer
-had_memory g k id (asks.Store put) = refl
-had_memory g k id (asks.Delete key compare) = refl
-had_memory g k id (asks.Sum ask) = refl
-had_memory g k id (asks.Touch key exptime) = refl
-had_memory g k id (asks.Flush delay) = refl
-had_memory g k id asks.Stats = refl
+pub had_memory : EachAnswerHadMemory
+had_memory g c desk id (asks.Look key look) = found_had (look_call c desk id key look).answer
+had_memory g c desk id (asks.Store put) = refl
+had_memory g c desk id (asks.Delete key compare) = refl
+had_memory g c desk id (asks.Sum ask) = refl
+had_memory g c desk id (asks.Touch key exptime) = refl
+had_memory g c desk id (asks.Flush delay) = refl
+had_memory g c desk id asks.Stats = refl
 
 -- a step of the pass that an entry records is one of these
 abbrev pub IsListed : ℕ → List Ask → Entry → Type 0
@@ -176,7 +177,7 @@ module _ (laws : StepLaws) (g : Geometry) (pass : ℕ) where
       count = (let one = one_more state.1 call.answer in let other = one_more done ask in let same = was.served.count in omega (arith, one, other, same));
       keeps = all_append (IsListed pass (done ++ ask ∷ [])) state.0.journal call.entries (keeps_more pass done (ask ∷ []) state.0.journal was.served.keeps) (own_keeps pass done (length state.1) ask call.entries was.served.count of);
       known = known_more;
-      each = all_append (λ answer. ends_command answer ≡ false) state.1 (call.answer ∷ []) was.served.each (had_memory g state.0 id ask, tt);
+      each = all_append (λ answer. ends_command answer ≡ false) state.1 (call.answer ∷ []) was.served.each (had_memory g state.0.cache state.0.desk id ask, tt);
     }
 
     -- one step more

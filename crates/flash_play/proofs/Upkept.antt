@@ -12,8 +12,8 @@ use Rattle.flash_machine.specs.Load.{load_of}
 use Rattle.flash_index.specs.KeyEnds.{last_out}
 use Rattle.flash_core.specs.Calls.{drop_if, expired_last}
 use Rattle.flash_core.specs.Store.{Desk}
-use Rattle.flash_play.specs.declared.step.Upkeep.{Upkeep}
-use Rattle.flash_play.specs.declared.step.Upkeep.TheVariants.{Room, Reap, Juggle}
+use Rattle.flash_script.specs.declared.step.Upkeep.{Upkeep}
+use Rattle.flash_script.specs.declared.step.Upkeep.TheVariants.{Room, Reap, Juggle}
 use Rattle.flash_play.specs.Playing.{upkeep_call}
 
 -- the key that making room drops

@@ -3,7 +3,7 @@ use Rattle.std.specs.Prelude.{◌≡◌, List, ◌++◌}
 use Rattle.flash_names.specs.declared.geometry.Geometry.{Geometry}
 use Rattle.flash_entry.specs.declared.entry.Entry.{Entry}
 use Rattle.flash_play.specs.Playing.{play_of}
-use Rattle.flash_play.specs.Steps.{Step}
+use Rattle.flash_script.specs.Steps.{Step}
 
 -- a journal goes on from another
 pub record GoesOnFrom (front whole : List Entry) : Type 0 where

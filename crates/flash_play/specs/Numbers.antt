@@ -2,7 +2,7 @@
 use Rattle.std.specs.Prelude.{◌≡◌, ℕ, length}
 use Rattle.flash_machine.specs.NewSteps.{IsNew}
 use Rattle.flash_play.specs.Playing.{Play, number_after, seat_at, play_step}
-use Rattle.flash_play.specs.Steps.{Step, IsSession, IsSeated}
+use Rattle.flash_script.specs.Steps.{Step, IsSession, IsSeated}
 use Rattle.flash_names.specs.declared.geometry.Geometry.{Geometry}
 
 -- each session's next number is new

@@ -13,10 +13,11 @@ use Rattle.flash_commands.specs.declared.place.Place.{Place}
 use Rattle.flash_commands.specs.declared.place.Place.TheVariants.{AtQuit, TooLong}
 use Rattle.flash_commands.specs.Parts.{Read}
 use Rattle.flash_commands.specs.Commands.{commands_of}
+use Rattle.flash_session.specs.Pieces.{next_piece}
 use Rattle.flash_session.specs.Talks.{talk_of, steps_of}
-use Rattle.flash_play.specs.declared.step.Upkeep.{Upkeep}
-use Rattle.flash_play.specs.declared.step.Upkeep.TheVariants.{Room, Reap, Juggle}
-use Rattle.flash_play.specs.Steps.{Step, Clock, Say, Feed, Run, Keep}
+use Rattle.flash_script.specs.declared.step.Upkeep.{Upkeep}
+use Rattle.flash_script.specs.declared.step.Upkeep.TheVariants.{Room, Reap, Juggle}
+use Rattle.flash_script.specs.Steps.{Step, Clock, Say, Feed, Turn, Run, Keep}
 
 -- a session: the bytes that it was given, what its steps were told, what it was answered, and whether it is closed: a
 -- turn of it has met the end of its bytes
@@ -109,13 +110,59 @@ is_end AtQuit = true
 is_end TooLong = true
 is_end _ = false
 
--- the session after its turn, by what was read of its bytes, and what its steps were told: it has all its replies, and
--- is closed where its bytes have an end
+-- what a session's next turn is: a piece of its replies is written, or else its next step is done; and without a turn
+-- its bytes have an end, or it needs more of them
+pub data Need : Type 0 where
+  Writes : List ℕ → Need
+  Does : Ask → Need
+  Ends : Need
+  Rests : Need
+
+-- by the piece and the step that are next, and whether the bytes have an end
+abbrev pub need_by : Option (List ℕ) → Option Ask → Bool → Need
+need_by (Some piece) ask end = Writes piece
+need_by None (Some ask) end = Does ask
+need_by None None true = Ends
+need_by None None false = Rests
+
+abbrev pub need_of : Geometry → Seat → Need
+need_of g seat =
+    let read = commands_of g.item_max seat.given in
+    need_by (next_piece g.item_max seat.given seat.told seat.replies) (slice_get (steps_of read.asked) (length seat.told))
+    (is_end read.place)
+
+-- the store and the session after a turn, by what it was: where there is none, the session is closed where its bytes have
+-- an end
+abbrev pub turned : Geometry → ℕ → StoreState → Seat → Need → StoreState × Seat
+turned g session kept seat (Writes piece) = (kept, record seat { replies = seat.replies ++ piece })
+turned g session kept seat (Does ask) =
+    let after = do_ask g session (kept, seat.told) ask in (after.0, record seat { told = after.1 })
+turned g session kept seat Ends = (kept, record seat { closed = true })
+turned g session kept seat Rests = (kept, record seat { closed = false })
+
+-- where there was none, a line is printed
+abbrev pub with_need_line : Play → ℕ → Need → Play
+with_need_line play line (Writes piece) = play
+with_need_line play line (Does ask) = play
+with_need_line play line Ends = with_line play (codes "closed") line
+with_need_line play line Rests = with_line play (codes "idle") line
+
+-- a single turn of the session
+abbrev pub turn_by : Geometry → Play → ℕ → ℕ → Seat → Need → Play
+turn_by g play line session seat need =
+    let after = turned g session play.kept seat need in
+    with_need_line (with_seat (record play { kept = after.0 }) session after.1) line need
+
+abbrev pub turn : Geometry → Play → ℕ → ℕ → Play
+turn g play line session = let seat = seat_at play session in turn_by g play line session seat (need_of g seat)
+
+-- the session after all its turns, by what was read of its bytes, and what its steps were told: it has all its replies,
+-- and is closed where its bytes have an end
 abbrev pub seat_after_run : Seat → Read → List Told → Seat
 seat_after_run seat read told =
     record seat { told = told; replies = (talk_of read.asked told).replies; closed = is_end read.place }
 
--- a turn of the session: it does the steps that its bytes ask and that it hasn't done
+-- all turns of the session: it does the steps that its bytes ask and that it hasn't done
 abbrev pub run : Geometry → Play → ℕ → Play
 run g play session =
     let seat = seat_at play session in
@@ -151,6 +198,7 @@ abbrev pub play_step : Geometry → Play → ℕ → Step → Play
 play_step g play line (Clock reading) = clock play line reading
 play_step g play line (Say session bytes) = say play line session bytes
 play_step g play line (Feed session bytes) = feed play line session bytes
+play_step g play line (Turn session) = turn g play line session
 play_step g play line (Run session) = run g play session
 play_step g play line (Keep kind) = upkeep g play line kind
 

@@ -1,13 +1,12 @@
--- What the steps of a script print and which sessions they make, read off the script alone.
+-- What each step of a script prints, by the steps before it, and which sessions the steps make.
 use Rattle.std.specs.Prelude.{◌≡◌, ℕ, ◌+◌, ◌-◌, min, Bool, false, nat_eq, nat_lt, List, [], ◌∷◌, ◌++◌, is_some, slice_get, codes, decimal, if◌then◌else◌}
 use Rattle.std.specs.List.{list_any}
 use Rattle.std.specs.Option.{option_flatten}
 use Rattle.flash_names.specs.declared.geometry.Geometry.{Geometry}
-use Rattle.flash_play.specs.Answers.{bytes_before_last_run, moment_after}
-use Rattle.flash_commands.specs.Commands.{commands_of}
-use Rattle.flash_play.specs.Playing.{Play, is_end, play_of, upkeep_call}
-use Rattle.flash_play.specs.declared.step.Upkeep.{Upkeep}
-use Rattle.flash_play.specs.Steps.{Step, Clock, Say, Feed, Run, Keep, IsSession, AreSeated}
+use Rattle.flash_play.specs.Answers.{moment_after}
+use Rattle.flash_play.specs.Playing.{Play, Need, Writes, Does, Ends, Rests, need_of, seat_at, play_of, upkeep_call}
+use Rattle.flash_script.specs.declared.step.Upkeep.{Upkeep}
+use Rattle.flash_script.specs.Steps.{Step, Clock, Say, Feed, Turn, Run, Keep, IsSession, AreSeated}
 use Rattle.flash_machine.specs.Moments.{last_moment}
 
 -- a printed line: a word, and the number of the script's line
@@ -21,18 +20,25 @@ upkeep_does g play kind = (upkeep_call g play.kept.cache play.kept.desk kind).an
 -- what bytes for a session print after these steps
 abbrev pub feed_prints : Geometry → List Step → ℕ → ℕ → List ℕ
 feed_prints g before line session =
-    if is_end (commands_of g.item_max (bytes_before_last_run session before)).place
-    then printed_line (codes "closed") line
-    else []
+    if (seat_at (play_of g before) session).closed then printed_line (codes "closed") line else []
 
--- What a step after these steps prints: a reading of the clock `idle` where it isn't above the readings before,
--- bytes for a session `closed` where the bytes before its last run end it, and upkeep `idle` where the store that the
--- steps before make has nothing for it to do; a run prints nothing
+-- what a single turn of a session prints, by what it was
+abbrev pub turn_prints : ℕ → Need → List ℕ
+turn_prints line (Writes piece) = []
+turn_prints line (Does ask) = []
+turn_prints line Ends = printed_line (codes "closed") line
+turn_prints line Rests = printed_line (codes "idle") line
+
+-- What a step after these steps prints: a reading of the clock `idle` where it isn't above the readings before; bytes for a
+-- session `closed` where a turn or run of it has met the end of its bytes; a single turn `closed` where there is none and
+-- its bytes have an end, and `idle` where there is none and they have not; and upkeep `idle` where the store that the steps
+-- before make has nothing for it to do. A run prints nothing
 abbrev pub step_prints : Geometry → List Step → ℕ → Step → List ℕ
 step_prints g before line (Clock reading) =
     if nat_lt (moment_after 0 before) (min reading last_moment) then [] else printed_line (codes "idle") line
 step_prints g before line (Say session bytes) = feed_prints g before line session
 step_prints g before line (Feed session bytes) = feed_prints g before line session
+step_prints g before line (Turn session) = turn_prints line (need_of g (seat_at (play_of g before) session))
 step_prints g before line (Run session) = []
 step_prints g before line (Keep kind) =
     if upkeep_does g (play_of g before) kind then [] else printed_line (codes "idle") line
@@ -48,6 +54,7 @@ abbrev pub names : ℕ → Step → Bool
 names session (Clock reading) = false
 names session (Say other bytes) = nat_eq other session
 names session (Feed other bytes) = nat_eq other session
+names session (Turn other) = nat_eq other session
 names session (Run other) = nat_eq other session
 names session (Keep kind) = false
 

@@ -1,6 +1,7 @@
 // Laws over every script. Each function's contract is the law; its body calls the laws that it rests on, and does nothing.
 ghost use Rattle.flash_play.specs.Answers.{EveryPlayIsRight};
 ghost use Rattle.flash_play.specs.Fronts.{EachFrontMakesAFront};
+ghost use Rattle.flash_play.specs.Laws.{EachAnswerHadMemory};
 ghost use Rattle.flash_play.specs.Numbers.{StepsLeaveNumbersNew};
 ghost use Rattle.flash_play.specs.Printing.{EveryPlayIsPrinted};
 
@@ -14,6 +15,7 @@ use flash_core::{
     each_clock_goes_on, each_juggling_goes_on, each_reaping_goes_on, each_room_goes_on,
 };
 use flash_index::no_items_are_listed;
+use flash_session::{pieces_are_the_replies, pieces_go_on};
 
 /// Steps of sessions from 1 to 16 make a run of the one-thread cache, in which each session is answered as its bytes
 /// and the journal say.
@@ -35,6 +37,8 @@ pub fn every_play_is_right()
     no_items_are_listed();
     more_bytes_go_on();
     an_end_stays();
+    pieces_are_the_replies();
+    pieces_go_on();
 }
 
 /// Each step of a script prints the line that the script's text says, and none else, and the sessions that are made are
@@ -57,6 +61,8 @@ pub fn every_play_is_printed()
     no_items_are_listed();
     more_bytes_go_on();
     an_end_stays();
+    pieces_are_the_replies();
+    pieces_go_on();
 }
 
 /// Each step leaves the next number of each session new.
@@ -72,4 +78,9 @@ pub fn steps_leave_numbers_new()
 /// by what comes after it.
 pub fn each_front_makes_a_front()
     ensures { EachFrontMakesAFront }
+{}
+
+/// What a store answers had memory, so that a command goes on after each of its steps.
+pub fn each_answer_had_memory()
+    ensures { EachAnswerHadMemory }
 {}

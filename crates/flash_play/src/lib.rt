@@ -7,9 +7,8 @@
 #![tactic(auto)]
 
 mod laws;
-mod step;
 
 pub use laws::{
-    each_front_makes_a_front, every_play_is_printed, every_play_is_right, steps_leave_numbers_new,
+    each_answer_had_memory, each_front_makes_a_front, every_play_is_printed, every_play_is_right,
+    steps_leave_numbers_new,
 };
-pub use step::{MAX_SESSIONS, SessionNumber, Step, Upkeep};

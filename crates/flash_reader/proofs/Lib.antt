@@ -1,1 +1,4 @@
 mod LineCuts
+mod Scans
+mod Awaited
+mod Skips

@@ -1,4 +1,4 @@
-ghost use Rattle.std.specs.Prelude.{◌≡◌, ℕ, ◌≤◌, ◌<◌, ◌+◌, ◌^◌, List, [], ◌∷◌, take, drop, length, nat_lt, Some, IfSome, if◌then◌else◌};
+ghost use Rattle.std.specs.Prelude.{◌≡◌, ℕ, ◌≤◌, ◌<◌, ◌+◌, ◌^◌, List, [], ◌∷◌, take, drop, length, nat_lt, None, Some, IfSome, IsNone, if◌then◌else◌};
 ghost use Rattle.flash_text.specs.declared.text.Refusal.TheVariants.{BadChunk};
 ghost use Rattle.flash_text.specs.Lines.{line_of};
 ghost use Rattle.flash_meta.specs.MetaLines.{meta_of};
@@ -6,7 +6,9 @@ ghost use Rattle.flash_commands.specs.declared.place.Place.TheVariants as places
 ghost use Rattle.flash_commands.specs.Parts as parts;
 ghost use Rattle.flash_commands.specs.Meanings.{meaning_of, plain_of, text_meaning, meta_meaning};
 ghost use Rattle.flash_commands.specs.Commands.{cut_within, line_front, skip_front, front_of, with_meaning, with_block};
+ghost use Rattle.flash_names.specs.Cut.{cut_at};
 ghost use Rattle.flash_reader.specs.Fronts.{front_said, line_cut};
+ghost use Rattle.flash_reader.specs.Remembered.{IsScanned};
 ghost use Rattle.flash_reader.specs.declared.front.TheConstants.{LINE_LIMIT};
 
 use flash_commands::Place;
@@ -40,13 +42,15 @@ pub struct Front<'a> {
     pub next: Place,
 }
 
-/// The front of the bytes at a place, or `None` where more bytes are needed, or none is read any more.
-pub fn read_front(item_max: u32, place: Place, bytes: &[u8]) -> Option<Front<'_>>
+/// The front of the bytes at a place, or `None` where more bytes are needed, or none is read any more. Of the first
+/// bytes so many are known to have no line feed.
+pub fn read_front(item_max: u32, place: Place, bytes: &[u8], scanned: usize) -> Option<Front<'_>>
+    requires { IsScanned scanned bytes.now }
     ensures { front_said result ≡ front_of item_max LINE_LIMIT place bytes.now }
 {
     match place {
-        Place::InLine => read_line_front(item_max, bytes),
-        Place::InSkip => skip_front(bytes),
+        Place::InLine => read_line_front(item_max, bytes, scanned),
+        Place::InSkip => skip_front(bytes, scanned),
         Place::AtQuit | Place::TooLong => None,
     }
 }
@@ -64,22 +68,26 @@ fn window(bytes: &[u8]) -> &[u8]
     }
 }
 
-// The length of the line at the front, with its line feed, where one is there.
-fn line_length(bytes: &[u8]) -> Option<usize>
+/// The length of the line at the front, with its line feed, where one is there. Of the first bytes so many are known to
+/// have no line feed.
+pub fn line_length(bytes: &[u8], scanned: usize) -> Option<usize>
+    requires { IsScanned scanned bytes.now }
     ensures within { IfSome result (λ n. (1 ≤ n) × (n ≤ LINE_LIMIT) × (n ≤ length bytes.now)) }
     ensures cut { line_cut bytes.now result ≡ cut_within LINE_LIMIT bytes.now }
+    ensures feedless { IsNone result → cut_at 10 (take LINE_LIMIT bytes.now) ≡ None }
 {
-    match cut_at_byte(b'\n', window(bytes)) {
+    match cut_at_byte(b'\n', window(bytes).split_at(scanned).1) {
         None => None,
-        Some((line, _)) => Some(line.len() + 1),
+        Some((line, _)) => Some(scanned + line.len() + 1),
     }
 }
 
 // The front where a line is next.
-fn read_line_front(item_max: u32, bytes: &[u8]) -> Option<Front<'_>>
+fn read_line_front(item_max: u32, bytes: &[u8], scanned: usize) -> Option<Front<'_>>
+    requires { IsScanned scanned bytes.now }
     ensures { front_said result ≡ line_front item_max LINE_LIMIT (cut_within LINE_LIMIT bytes.now) }
 {
-    let Some(n) = line_length(bytes) else {
+    let Some(n) = line_length(bytes, scanned) else {
         return without_feed(bytes.len());
     };
     let (line, behind) = bytes.split_at(n);
@@ -87,10 +95,11 @@ fn read_line_front(item_max: u32, bytes: &[u8]) -> Option<Front<'_>>
 }
 
 // The front where bytes are skipped up to a line feed.
-fn skip_front(bytes: &[u8]) -> Option<Front<'_>>
+fn skip_front(bytes: &[u8], scanned: usize) -> Option<Front<'_>>
+    requires { IsScanned scanned bytes.now }
     ensures { (item_max : ℕ) → front_said result ≡ skip_front item_max LINE_LIMIT (cut_within LINE_LIMIT bytes.now) }
 {
-    match line_length(bytes) {
+    match line_length(bytes, scanned) {
         None => without_feed(bytes.len()),
         Some(n) => Some(nothing(n, Place::InLine)),
     }

@@ -6,7 +6,8 @@ ghost use Rattle.flash_reader.specs.Fronts.{front_said};
 ghost use Rattle.flash_reader.specs.Readers.{room_of, fed, taken};
 
 pub use crate::front::LINE_LIMIT;
-use crate::front::{Front, read_front};
+use crate::front::{Front, line_length, read_front};
+use crate::wanted::wanted_after;
 use flash_commands::{Place, a_rest_is_short};
 use std::alloc::{AllocError, Global};
 use std::marker::Model;
@@ -21,11 +22,16 @@ pub struct Reader {
     // How many bytes to come are passed over; none are unread then.
     skip: usize,
     place: Place,
+    // So many of the unread bytes are known to have no line feed.
+    scanned: usize,
+    // So many unread bytes are needed at least for a front; 0 where nothing is known.
+    wanted: usize,
 }
 
 impl Model for Reader {
     ghost use Rattle.std.specs.Prelude.{◌≡◌, ◌≤◌, ◌<◌, drop, length};
     ghost use Rattle.flash_reader.specs.Readers.{Reads};
+    ghost use Rattle.flash_reader.specs.Remembered.{IsScanned, IsWanted};
 
     ghost Value = { Reads };
 
@@ -34,7 +40,9 @@ impl Model for Reader {
       reader = record { skip = r.skip; place = r.place; unread = drop r.start r.bytes.items };
     } };
 
-    ghost invariant = { λ r. (r.start ≤ length r.bytes.items) × (0 < r.skip → r.start ≡ length r.bytes.items) };
+    ghost invariant = { λ r. (r.start ≤ length r.bytes.items) × (0 < r.skip → r.start ≡ length r.bytes.items)
+        × IsScanned r.scanned (drop r.start r.bytes.items)
+        × IsWanted r.item_max r.place r.wanted (drop r.start r.bytes.items) };
 }
 
 impl Reader {
@@ -51,6 +59,8 @@ impl Reader {
             start: 0,
             skip: 0,
             place: Place::InLine,
+            scanned: 0,
+            wanted: 0,
         }
     }
 
@@ -92,7 +102,26 @@ impl Reader {
     {
         // The law does nothing: the call brings it into this function's proof.
         a_rest_is_short();
-        read_front(self.item_max, self.place, self.bytes.split_at(self.start).1)
+        let unread = self.bytes.split_at(self.start).1;
+        if unread.len() < self.wanted {
+            return None;
+        }
+        read_front(self.item_max, self.place, unread, self.scanned)
+    }
+
+    /// Remembers how far the unread bytes have no line feed, or how many are needed for their line and its block, so
+    /// that `front` needn't read them again when more come. It is called where there is no front; the reader stands for
+    /// the same.
+    pub fn look(&mut self)
+        ensures { self.new ≡ self.old }
+    {
+        let unread = self.bytes.split_at(self.start).1;
+        if self.wanted <= unread.len() {
+            match line_length(unread, self.scanned) {
+                None => self.scanned = unread.len().min(LINE_LIMIT),
+                Some(n) => self.wanted = wanted_after(self.item_max, self.place, unread, n),
+            }
+        }
     }
 
     /// Passes over a front of so many bytes, as far as they are there, and over the rest of them as they come. No bytes
@@ -105,6 +134,8 @@ impl Reader {
         self.start += there;
         self.skip = bytes - there;
         self.place = next;
+        self.scanned = 0;
+        self.wanted = 0;
     }
 
     /// What its next bytes are.

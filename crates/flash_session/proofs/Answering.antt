@@ -74,7 +74,7 @@ module _ (command : Command) (after : List Told → Talk) where
       }
 
 -- a place in a list that has something is within it
-some_within : (asks : List Ask) (step : ℕ) → IsSome (slice_get asks step) → step < length asks
+pub some_within : (asks : List Ask) (step : ℕ) → IsSome (slice_get asks step) → step < length asks
 some_within [] step some = absurd (none_some some)
   where
     none_some : IsSome (let none : Option Ask = None in none) → ⊥

@@ -30,19 +30,24 @@ place_after : (one other : List Ask) (k : ℕ) → slice_get (one ++ other) (len
 place_after [] other k = let same : zero + k ≡ k = omega arith in ap (λ (i : ℕ). slice_get other i) same
 place_after (ask ∷ one) other k = let more : suc (length one) + k ≡ suc (length one + k) = omega arith in ap (λ (i : ℕ). slice_get (ask ∷ one ++ other) i) more ∙ place_after one other k
 
+-- what is read behind a front of so many bytes
+abbrev pub behind : Session → ℕ → Place → List Asked
+behind s n next = (left_of s.reads.item_max (record { skip = n; place = next; unread = s.reads.reader.unread })).asked
+
+-- all that the bytes ask is what is done, the front's, and what is behind it
+pub asked_is : (bytes : List ℕ) (told : List Told) (gone : List ℕ) (s : Session) (stands : Stands bytes told gone s) → s.reads.reader.skip ≡ 0 → (asked : List Asked) (n : ℕ) (next : Place) → front_now s ≡ Takes asked n next
+    → (commands_of s.reads.item_max bytes).asked ≡ stands.done ++ (asked ++ behind s n next)
+asked_is bytes told gone s stands none asked n next front =
+    ap (λ (read : Read). read.asked) (takes s.reads.item_max n bytes stands.done asked next s.reads.reader none front stands.reads) ∙ append_assoc stands.done asked (behind s n next)
+
 module _ (bytes : List ℕ) (told : List Told) (gone : List ℕ) (s : Session) (ask : Ask) (stands : Stands bytes told gone s) (none : s.reads.reader.skip ≡ 0) where
   module _ (command : Command) (block : List ℕ) (n : ℕ) (next : Place) (front : front_now s ≡ Takes (Asks command block ∷ []) n next) (is : slice_get (asks_of command block) s.step ≡ Some ask) where
     abbrev more : List Asked
-    more = (left_of s.reads.item_max (record { skip = n; place = next; unread = s.reads.reader.unread })).asked
-
-    asked_is : (commands_of s.reads.item_max bytes).asked ≡ stands.done ++ (Asks command block ∷ more)
-    asked_is =
-        ap (λ (read : Read). read.asked) (takes s.reads.item_max n bytes stands.done (Asks command block ∷ []) next s.reads.reader none front stands.reads)
-        ∙ append_assoc stands.done (Asks command block ∷ []) more
+    more = behind s n next
 
     talk_is : talk_of (commands_of s.reads.item_max bytes).asked told ≡ then_talk (talk_of stands.done stands.before) (talk_of (Asks command block ∷ more) stands.here)
     talk_is =
-        ap (λ (asked : List Asked). talk_of asked told) asked_is ∙ ap (talk_of (stands.done ++ (Asks command block ∷ more))) stands.told_is
+        ap (λ (asked : List Asked). talk_of asked told) (asked_is bytes told gone s stands none (Asks command block ∷ []) n next front) ∙ ap (talk_of (stands.done ++ (Asks command block ∷ more))) stands.told_is
         ∙ after_whole stands.done (Asks command block ∷ more) stands.before stands.here stands.whole
 
     next_is : slice_get (talk_of (commands_of s.reads.item_max bytes).asked told).asks (length told) ≡ Some ask

@@ -19,10 +19,10 @@ asked_stays step (Takes asked n place) longer stays some = stays
 asked_stays step Rest longer stays some = absurd (none_asked some)
 
 module _ (bytes more : List ℕ) (told : List Told) (gone : List ℕ) (s : Session) (stands : Stands bytes told gone s) where
-  abbrev after : Session
+  abbrev pub after : Session
   after = record s { reads = record s.reads { reader = fed s.reads.reader more } }
 
-  stays : IsSome (ask_at s.step (front_now s)) → front_now after ≡ front_now s
+  pub stays : IsSome (ask_at s.step (front_now s)) → front_now after ≡ front_now s
   stays some =
       let none = asked_none_skipped bytes told gone s stands some in
       let same : min s.reads.reader.skip (length (s.reads.reader.unread ++ more)) ≡ 0 = omega (arith, none) in

@@ -6,3 +6,5 @@ mod Asking
 mod Uniform
 mod Resting
 mod ReadingOn
+pub mod Pieces
+pub mod HoldingPieces

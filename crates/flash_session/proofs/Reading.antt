@@ -45,13 +45,13 @@ held_over reader more = none_left reader.skip reader.unread more
 
 -- a session without answers to the command at its front, which takes the front, and replies to it
 module _ (bytes : List ℕ) (told : List Told) (gone : List ℕ) (s : Session) (stands : Stands bytes told gone s) (none : s.reads.reader.skip ≡ 0) (first : s.step ≡ 0) (free : s.owed ≡ false) where
-  here_none : stands.here ≡ []
+  pub here_none : stands.here ≡ []
   here_none = no_answers stands.here (sym stands.step ∙ first)
 
   told_before : told ≡ stands.before
   told_before = stands.told_is ∙ ap (λ (h : List Told). stands.before ++ h) here_none ∙ append-nil stands.before
 
-  said_so_far : gone ++ s.out ≡ (talk_of stands.done stands.before).replies
+  pub said_so_far : gone ++ s.out ≡ (talk_of stands.done stands.before).replies
   said_so_far =
       stands.replies ∙ ap (λ (h : List Told). (talk_of stands.done stands.before).replies ++ front_replies (front_now s) h) here_none
       ∙ ap (λ (r : List ℕ). (talk_of stands.done stands.before).replies ++ r) (none_replied (front_now s)) ∙ append-nil (talk_of stands.done stands.before).replies

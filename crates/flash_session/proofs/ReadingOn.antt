@@ -9,6 +9,7 @@ use Rattle.flash_commands.specs.declared.place.Place.{Place}
 use Rattle.flash_commands.specs.Parts.{Asks, Refused, Front, Takes}
 use Rattle.flash_commands.specs.Asks.{asks_of}
 use Rattle.flash_session.specs.Laws.{AReadGoesOn}
+use Rattle.flash_session.specs.PieceLaws.{AReadHoldsAPiece}
 use Rattle.flash_session.specs.States.{Session, front_now, after_front, read_plain, read_at_once}
 use Rattle.flash_session.specs.Todos.{HasReadOn, IsNext, IsCounted, Needs}
 use Rattle.flash_session.specs.declared.todo.Todo.{Todo}
@@ -36,11 +37,12 @@ module _ (s next : Session) where
   leaves _ read = absurd (cc read)
 
 -- one front more
-pub reads_more : (first s next : Session) → AReadGoesOn → HasReadOn first s → read_at_once s (front_now s) ≡ Some next → HasReadOn first next
-reads_more first s next law was read =
+pub reads_more : (first s next : Session) → AReadGoesOn → AReadHoldsAPiece → HasReadOn first s → s.out ≡ [] → read_at_once s (front_now s) ≡ Some next → HasReadOn first next
+reads_more first s next law piece_law was empty read =
     let same = leaves s next (front_now s) read in
     record {
       stands = λ bytes told gone stands. law bytes told gone s next read (was.stands bytes told gone stands);
+      piece = λ bytes told gone stands holds. piece_law bytes told gone s next empty read (was.stands bytes told gone stands);
       pass = same.pass ∙ was.pass;
       item_max = same.item_max ∙ was.item_max;
       owed = same.owed ∙ was.owed;
@@ -49,11 +51,11 @@ reads_more first s next law was read =
 
 -- a session that is as it was needs what holds of it
 pub same_needs : (s : Session) (todo : Todo) → IsCounted s todo s → IsNext s todo → Needs s todo s
-same_needs s todo counted next = record { stands = λ bytes told gone stands. stands; pass = refl; item_max = refl; counted = counted; next = next }
+same_needs s todo counted next = record { stands = λ bytes told gone stands. stands; piece = λ bytes told gone stands holds. holds; pass = refl; item_max = refl; counted = counted; next = next }
 
 -- one that has read on, and has replies to send
 pub read_needs : (s next : Session) → HasReadOn s next → (next.out ≡ [] → ⊥) → Needs s Write next
-read_needs s next read some = record { stands = read.stands; pass = read.pass; item_max = read.item_max; counted = (read.owed, read.last); next = some }
+read_needs s next read some = record { stands = read.stands; piece = read.piece; pass = read.pass; item_max = read.item_max; counted = (read.owed, read.last); next = some }
 
 -- one that has read on, and then comes to need this
 counted_on : (s read next : Session) (todo : Todo) → HasReadOn s read → IsCounted read todo next → IsCounted s todo next
@@ -66,6 +68,7 @@ counted_on s read next Input on counted = (counted.0 ∙ on.owed, counted.1 ∙ 
 pub then_needs : (s read next : Session) (todo : Todo) → HasReadOn s read → Needs read todo next → Needs s todo next
 then_needs s read next todo on needs = record {
   stands = λ bytes told gone stands. needs.stands bytes told gone (on.stands bytes told gone stands);
+  piece = λ bytes told gone stands holds. needs.piece bytes told gone (on.stands bytes told gone stands) (on.piece bytes told gone stands holds);
   pass = needs.pass ∙ on.pass;
   item_max = needs.item_max ∙ on.item_max;
   counted = counted_on s read next todo on needs.counted;

@@ -15,7 +15,7 @@ pub then_assoc : (one two three : Talk) → then_talk (then_talk one two) three 
 then_assoc one two three = λ i. record { asks = append_assoc one.asks two.asks three.asks i; replies = append_assoc one.replies two.replies three.replies i }
 
 -- steps that are answered whole, with more answers after them
-some_left : (left told : List Told) → Some told ≡ Some left → told ≡ left
+pub some_left : (left told : List Told) → Some told ≡ Some left → told ≡ left
 some_left left told is = cc is
 
 module _ (command : Command) (here : List Told) (rest : Talk) (after short : List Told → Talk) where

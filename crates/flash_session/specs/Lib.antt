@@ -1,5 +1,7 @@
 pub mod Talks
 pub mod States
 pub mod Stands
+pub mod Pieces
 pub mod Todos
 pub mod Laws
+pub mod PieceLaws

@@ -1,6 +1,7 @@
 // What a session stands for after each of its calls.
 ghost use Rattle.flash_session.specs.Laws.{ANewSessionStandsForNothing, AFeedGoesOn, AReadGoesOn, AnAskGoesOn};
 ghost use Rattle.flash_session.specs.Laws.{AnAskIsTheNextStep, StepsAreCounted, StepsComeInOrder, AnAnswerGoesOn, ASendGoesOn, AllIsSaid};
+ghost use Rattle.flash_session.specs.PieceLaws.{PiecesAreTheReplies, PiecesGoOn, ANextPieceStays, AReadHoldsAPiece, AnAnswerHoldsAPiece, NoPieceIsNextAtAnAsk};
 
 /// A session that was fed nothing stands for no bytes, no answers and no bytes that were sent.
 pub fn a_new_session_stands_for_nothing()
@@ -52,4 +53,34 @@ pub fn a_send_goes_on()
 /// sent, and its place is where the bytes end.
 pub fn all_is_said()
     ensures { AllIsSaid }
+{}
+
+/// The pieces of the replies, one after the other, are the replies.
+pub fn pieces_are_the_replies()
+    ensures { PiecesAreTheReplies }
+{}
+
+/// More commands and more answers add pieces behind those that are there.
+pub fn pieces_go_on()
+    ensures { PiecesGoOn }
+{}
+
+/// The piece that is next stays it where more bytes are given.
+pub fn a_next_piece_stays()
+    ensures { ANextPieceStays }
+{}
+
+/// A session that had nothing to send and reads a front at once has the next piece to send, if anything.
+pub fn a_read_holds_a_piece()
+    ensures { AReadHoldsAPiece }
+{}
+
+/// A session that had nothing to send and is told an answer has the next piece to send, if anything.
+pub fn an_answer_holds_a_piece()
+    ensures { AnAnswerHoldsAPiece }
+{}
+
+/// Where a session has nothing to send and a step is next, no piece of its replies is, whatever bytes come.
+pub fn no_piece_is_next_at_an_ask()
+    ensures { NoPieceIsNextAtAnAsk }
 {}

@@ -15,9 +15,10 @@ mod steps;
 mod todo;
 
 pub use laws::{
-    a_feed_goes_on, a_new_session_stands_for_nothing, a_read_goes_on, a_send_goes_on, all_is_said,
-    an_answer_goes_on, an_ask_goes_on, an_ask_is_the_next_step, steps_are_counted,
-    steps_come_in_order,
+    a_feed_goes_on, a_new_session_stands_for_nothing, a_next_piece_stays, a_read_goes_on,
+    a_read_holds_a_piece, a_send_goes_on, all_is_said, an_answer_goes_on, an_answer_holds_a_piece,
+    an_ask_goes_on, an_ask_is_the_next_step, no_piece_is_next_at_an_ask, pieces_are_the_replies,
+    pieces_go_on, steps_are_counted, steps_come_in_order,
 };
 pub use session::Session;
 pub use todo::{Ending, Todo};

@@ -5,7 +5,7 @@ ghost use Rattle.flash_session.specs.States.{first_session, front_now, read_at_o
 ghost use Rattle.flash_session.specs.Todos.{HasReadOn, IsFree, IsAtRest, IsNext, IsCounted, Needs};
 ghost use Rattle.flash_commands.specs.Asks.{asks_of};
 
-use crate::laws::{a_read_goes_on, an_ask_goes_on};
+use crate::laws::{a_read_goes_on, a_read_holds_a_piece, an_ask_goes_on};
 use crate::steps::{ask_at, has_step};
 use crate::todo::{Ending, Todo};
 use bytes::BytesMut;
@@ -139,6 +139,7 @@ impl Session {
         ensures done { OnOk result (self.new.out ≡ [] → read_at_once self.new (front_now self.new) ≡ None) }
     {
         a_read_goes_on();
+        a_read_holds_a_piece();
         'fronts: while self.out.is_empty() {
             if !self.read_at_once()? {
                 return Ok(());
@@ -185,6 +186,7 @@ impl Session {
         ensures refused { OnErr result (self.new ≡ self.old) }
     {
         let Some(front) = self.reader.front() else {
+            self.reader.look();
             return Ok(false);
         };
         match &front.asked {

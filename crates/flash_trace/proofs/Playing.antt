@@ -1,10 +1,3 @@
-pub mod Acting
-pub mod InMemory
-pub mod Moments
-pub mod NewNumbers
-pub mod Playback
-pub mod Printed
 pub mod SeatLists
-pub mod Seating
-pub mod StepGoesOn
-pub mod Upkept
+pub mod Turns
+pub mod Played

@@ -7,14 +7,14 @@ use Rattle.flash_streams.specs.Reading.{HasRead}
 use Rattle.flash_streams.specs.Writing.{IsWritten, IsBegun}
 use Rattle.flash_device.specs.declared.shape.Shape.{Shape}
 use Rattle.flash_device.specs.Calls.{Called}
-use Rattle.flash_trace.specs.declared.fault.ScriptFault.{ScriptFault}
+use Rattle.flash_script.specs.declared.fault.ScriptFault.{ScriptFault}
 use Rattle.flash_trace.specs.declared.fault.Status.{Status}
 use Rattle.flash_trace.specs.declared.fault.Status.TheVariants as statuses
-use Rattle.flash_trace.specs.Answers.{IsRight}
+use Rattle.flash_play.specs.Answers.{IsRight}
 use Rattle.flash_trace.specs.Outside.{SourceChange, SinkChange, DeviceChange}
 use Rattle.flash_trace.specs.Output.{output, fault_text, text_of}
-use Rattle.flash_trace.specs.Scripts.{Script, fault_of, script_of}
-use Rattle.flash_trace.specs.declared.script.TheConstants.{MAX_BYTES}
+use Rattle.flash_script.specs.Scripts.{Script, fault_of, script_of}
+use Rattle.flash_script.specs.declared.script.TheConstants.{MAX_BYTES}
 
 -- what a script's device is prepared for
 abbrev pub shape_of : Geometry → Shape

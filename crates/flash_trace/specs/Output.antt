@@ -1,25 +1,26 @@
 -- What a trace writes.
-use Rattle.std.specs.Prelude.{ℕ, ◌+◌, Bool, List, [], ◌∷◌, ◌++◌, length, Option, None, Some, codes, decimal, if◌then◌else◌}
+use Rattle.std.specs.Prelude.{ℕ, ◌+◌, Bool, List, [], ◌∷◌, ◌++◌, length, map, Option, None, Some, codes, decimal, if◌then◌else◌}
 use Rattle.std.specs.List.{flat_map}
+use Rattle.std.specs.Option.{option_map}
 use Rattle.flash_entry.specs.declared.entry.Entry.{Entry}
 use Rattle.flash_entry.specs.EntryText.{entry_line}
-use Rattle.flash_trace.specs.declared.fault.Why.{Why}
-use Rattle.flash_trace.specs.declared.fault.Why.TheVariants.{BadWord, BadNumber, Short, TooLong}
-use Rattle.flash_trace.specs.declared.fault.Why.TheVariants as reasons
-use Rattle.flash_trace.specs.declared.fault.ScriptFault.{ScriptFault}
-use Rattle.flash_trace.specs.Playing.{Seat, play_of}
-use Rattle.flash_trace.specs.Scripts.{Script, fault_of, script_of}
+use Rattle.flash_script.specs.declared.fault.Why.{Why}
+use Rattle.flash_script.specs.declared.fault.Why.TheVariants.{BadWord, BadNumber, Short, TooLong}
+use Rattle.flash_script.specs.declared.fault.Why.TheVariants as reasons
+use Rattle.flash_script.specs.declared.fault.ScriptFault.{ScriptFault}
+use Rattle.flash_play.specs.Playing.{Seat, play_of}
+use Rattle.flash_script.specs.Scripts.{Script, fault_of, script_of}
 
 -- a session's line, what it was answered, and a line feed, where it was made
-abbrev pub session_text : ℕ → Option Seat → List ℕ
+abbrev pub session_text : ℕ → Option (List ℕ) → List ℕ
 session_text number None = []
-session_text number (Some seat) =
-    codes "session " ++ decimal number ++ 32 ∷ decimal (length seat.replies) ++ 10 ∷ seat.replies ++ 10 ∷ []
+session_text number (Some replies) =
+    codes "session " ++ decimal number ++ 32 ∷ decimal (length replies) ++ 10 ∷ replies ++ 10 ∷ []
 
 -- the sessions from this number on
-abbrev pub sessions_text : ℕ → List (Option Seat) → List ℕ
+abbrev pub sessions_text : ℕ → List (Option (List ℕ)) → List ℕ
 sessions_text number [] = []
-sessions_text number (seat ∷ seats) = session_text number seat ++ sessions_text (number + 1) seats
+sessions_text number (replies ∷ more) = session_text number replies ++ sessions_text (number + 1) more
 
 -- the journal after the script's first line, with its line feed
 abbrev pub journal_text : List ℕ → List Entry → List ℕ
@@ -31,15 +32,19 @@ abbrev pub journal_if : Bool → List ℕ → List Entry → List ℕ
 journal_if wanted first_line journal = if wanted then journal_text first_line journal else []
 
 -- what a trace of so many steps has printed, what its sessions were answered, and its journal
-abbrev pub play_text : List ℕ → List (Option Seat) → List ℕ → ℕ → List ℕ
-play_text printed seats journal steps =
-    printed ++ sessions_text 1 seats ++ journal ++ codes "end " ++ decimal steps ++ 10 ∷ []
+abbrev pub play_text : List ℕ → List (Option (List ℕ)) → List ℕ → ℕ → List ℕ
+play_text printed answered journal steps =
+    printed ++ sessions_text 1 answered ++ journal ++ codes "end " ++ decimal steps ++ 10 ∷ []
+
+-- what the sessions were answered, as far as they are made
+abbrev pub answered : List (Option Seat) → List (Option (List ℕ))
+answered seats = map (option_map (λ seat. seat.replies)) seats
 
 -- the whole output of a script, with the journal or without
 abbrev pub output : Script → Bool → List ℕ
 output script with_journal =
     let play = play_of script.geometry script.steps in
-    play_text play.printed play.seats (journal_if with_journal script.first_line play.kept.journal)
+    play_text play.printed (answered play.seats) (journal_if with_journal script.first_line play.kept.journal)
     (length script.steps)
 
 abbrev pub why_text : Why → List ℕ

@@ -1,14 +1,15 @@
 // What a trace writes.
-ghost use Rattle.std.specs.Prelude.{◌≡◌, ◌++◌, ◌≤◌, length, map, decimal, IfOk, OnOk};
+ghost use Rattle.std.specs.Prelude.{◌≡◌, ◌++◌, ◌≤◌, length, decimal, IfOk, OnOk};
 ghost use Rattle.std.specs.Option.{option_map};
 ghost use Rattle.std.specs.List.{flat_map};
 ghost use Rattle.flash_entry.specs.EntryText.{entry_line};
 ghost use Rattle.flash_trace.specs.Output.{fault_text, journal_if, journal_text, play_text, session_text, sessions_text, why_text};
-ghost use Rattle.flash_trace.specs.Seats.{seat_of, seats_of};
+ghost use Rattle.flash_trace.specs.Seats.{shown};
 
-use crate::fault::{ScriptFault, Why};
-use crate::play::{Play, Seat};
+use crate::play::Play;
 use flash_entry::{Entry, print_entry};
+use flash_script::{ScriptFault, Why};
+use flash_seats::Seat;
 use itoa::Buffer;
 use std::alloc::{AllocError, Global};
 
@@ -23,7 +24,7 @@ pub fn play_output(
     steps: usize,
 ) -> Result<Vec<u8>, AllocError>
     ensures { IfOk result (λ out. out.items
-        ≡ play_text play.now.printed.items (seats_of play.now)
+        ≡ play_text play.now.printed.items (shown play.now.seats.items)
         (journal_if with_journal first_line.now journal.now) steps) }
 {
     let mut out = play.printed.to_vec(alloc)?;
@@ -38,7 +39,7 @@ pub fn play_output(
 }
 
 fn push_sessions(out: &mut Vec<u8>, seats: &[Option<Seat>]) -> Result<(), AllocError>
-    ensures { OnOk result (out.new.items ≡ out.old.items ++ sessions_text 1 (map (option_map seat_of) seats.now)) }
+    ensures { OnOk result (out.new.items ≡ out.old.items ++ sessions_text 1 (shown seats.now)) }
 {
     let mut number = 0u64;
     'seats: for seat in seats {
@@ -49,7 +50,7 @@ fn push_sessions(out: &mut Vec<u8>, seats: &[Option<Seat>]) -> Result<(), AllocE
 }
 
 fn push_session(out: &mut Vec<u8>, number: u64, seat: &Option<Seat>) -> Result<(), AllocError>
-    ensures { OnOk result (out.new.items ≡ out.old.items ++ session_text number (option_map seat_of seat.now)) }
+    ensures { OnOk result (out.new.items ≡ out.old.items ++ session_text number (option_map (λ seat. seat.replies.items) seat.now)) }
 {
     let Some(seat) = seat else {
         return Ok(());
@@ -57,9 +58,9 @@ fn push_session(out: &mut Vec<u8>, number: u64, seat: &Option<Seat>) -> Result<(
     out.extend_from_slice(b"session ")?;
     push_number(out, number)?;
     out.extend_from_slice(b" ")?;
-    push_number(out, seat.replies.len() as u64)?;
+    push_number(out, seat.replies().len() as u64)?;
     out.extend_from_slice(b"\n")?;
-    out.extend_from_slice(&seat.replies)?;
+    out.extend_from_slice(seat.replies())?;
     out.extend_from_slice(b"\n")
 }
 

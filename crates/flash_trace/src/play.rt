@@ -1,57 +1,17 @@
-ghost use Rattle.std.specs.Prelude.{◌≡◌, ◌-◌, not, [], ◌∷◌, ◌++◌, None, Some, decimal, length, replicate, slice_get, slice_set, if◌then◌else◌, IfOk, OnOk, IsTrue, is_some};
-ghost use Rattle.std.specs.Option.{ForSome, option_map};
+ghost use Rattle.std.specs.Prelude.{◌≡◌, ℕ, ◌-◌, not, [], ◌∷◌, ◌++◌, Option, None, Some, decimal, length, replicate, slice_set, if◌then◌else◌, IfOk, OnOk, IsTrue, is_some};
 ghost use Rattle.flash_core.specs.Store.{Becomes};
-ghost use Rattle.flash_trace.specs.Playing.{StoreState, seat_after_run, clock, upkeep, upkeep_call, seat_with_input, seat_or_new, play_step, run, say};
-ghost use Rattle.flash_trace.specs.CodeScripts.{step_meant, IsWithin};
-ghost use Rattle.flash_trace.specs.Seats.{seat_of, seats_of, play_state, state_of, AreSeats, TraceGoesOn, TakesUpTo};
+ghost use Rattle.flash_play.specs.Playing as play;
+ghost use Rattle.flash_seats.specs.Seats.{IsSeat};
+ghost use Rattle.flash_script.specs.CodeScripts.{step_meant, IsWithin};
+ghost use Rattle.flash_trace.specs.Seats.{IsMade, AreSeats, IsPlay, TraceGoesOn, with_turn_line};
 
-use crate::session::Session;
-use crate::step::{MAX_SESSIONS, SessionNumber, Step, Upkeep};
 use flash_core::Core;
 use flash_entry::Journal;
 use flash_names::Geometry;
+use flash_script::{MAX_SESSIONS, SessionNumber, Step, Upkeep};
+use flash_seats::{Seat, Turn, a_seat_has_the_next_number};
 use itoa::Buffer;
 use std::alloc::{AllocError, Global};
-
-/// A session that a script made, with the number of its last step, what it was answered, and whether it is closed.
-#[derive(Drop)]
-pub struct Seat {
-    /// What it has read, and the commands that wait.
-    pub session: Session,
-    /// The number of its last step, 0 before the first.
-    pub last: u64,
-    /// Its replies, one after the other.
-    pub replies: Vec<u8>,
-    /// A turn of the session has met the end of its bytes: it takes no more.
-    pub closed: bool,
-}
-
-impl Seat {
-    // Gives the session these bytes and a line end, and answers whether it took them: one that is closed takes
-    // nothing.
-    fn take_input(&mut self, input: &[u8]) -> Result<bool, AllocError>
-        ensures taken { IfOk result (λ taken. taken ≡ not self.old.closed) }
-        ensures heard { IfOk result (λ taken. seat_of self.new
-            ≡ (if taken then seat_with_input self.old.session.item_max (seat_of self.old) input.now
-            else seat_of self.old)) }
-        ensures size { OnOk result (self.new.session.item_max ≡ self.old.session.item_max) }
-    {
-        if self.closed {
-            return Ok(false);
-        }
-        self.session.feed(input)?;
-        self.session.feed(b"\r\n")?;
-        Ok(true)
-    }
-
-    // Ends a turn of the session: it is closed where its reader has met an end.
-    fn end_run(&mut self)
-        ensures ended { seat_of self.new ≡ seat_after_run (seat_of self.old) }
-        ensures size { self.new.session.item_max ≡ self.old.session.item_max }
-    {
-        self.closed = self.session.is_at_end();
-    }
-}
 
 /// What a trace has printed and answered so far.
 #[derive(Drop)]
@@ -89,9 +49,9 @@ impl Play {
     ) -> Result<(), AllocError>
         requires going { TraceGoesOn core.old self.old }
         requires within { IsWithin (length script.now) step }
-        ensures done { OnOk result (state_of core.new self.new
-            ≡ play_step core.old.geometry (state_of core.old self.old) line (step_meant script.now step)) }
-        ensures seats { OnOk result (AreSeats core.old.geometry.item_max self.new.seats.items) }
+        ensures done { OnOk result ((p : play.Play) → IsPlay p core.old self.old
+            → IsPlay (play.play_step core.old.geometry p line (step_meant script.now step)) core.new self.new) }
+        ensures places { OnOk result (length self.new.seats.items ≡ 16) }
         ensures tells { OnOk result (IsTrue (is_some core.new.told)) }
         ensures geometry { OnOk result (core.new.geometry ≡ core.old.geometry) }
     {
@@ -99,8 +59,13 @@ impl Play {
             Step::Clock(reading) => self.clock(core, reading, line),
             Step::Say(session, first, last) => {
                 let input = &script[first as usize..last as usize];
-                self.say(alloc, &core.geometry(), session, input, line)
+                self.feed(alloc, &core.geometry(), session, input, b"\r\n", line)
             }
+            Step::Feed(session, first, last) => {
+                let input = &script[first as usize..last as usize];
+                self.feed(alloc, &core.geometry(), session, input, b"", line)
+            }
+            Step::Turn(session) => self.turn(alloc, core, session, line),
             Step::Run(session) => self.run(alloc, core, session),
             Step::Keep(kind) => self.upkeep(core, kind, line),
         }
@@ -114,7 +79,8 @@ impl Play {
         line: u64,
     ) -> Result<(), AllocError>
         requires tells { IsTrue (is_some core.old.told) }
-        ensures done { OnOk result (state_of core.new self.new ≡ clock (state_of core.old self.old) line reading) }
+        ensures done { OnOk result ((p : play.Play) → IsPlay p core.old self.old
+            → IsPlay (play.clock p line reading) core.new self.new) }
         ensures seats { OnOk result (self.new.seats.items ≡ self.old.seats.items) }
         ensures tells { OnOk result (IsTrue (is_some core.new.told)) }
         ensures geometry { OnOk result (core.new.geometry ≡ core.old.geometry) }
@@ -131,8 +97,8 @@ impl Play {
         line: u64,
     ) -> Result<(), AllocError>
         requires tells { IsTrue (is_some core.old.told) }
-        ensures done { OnOk result (state_of core.new self.new
-            ≡ upkeep core.old.geometry (state_of core.old self.old) line kind) }
+        ensures done { OnOk result ((p : play.Play) → IsPlay p core.old self.old
+            → IsPlay (play.upkeep core.old.geometry p line kind) core.new self.new) }
         ensures seats { OnOk result (self.new.seats.items ≡ self.old.seats.items) }
         ensures tells { OnOk result (IsTrue (is_some core.new.told)) }
         ensures geometry { OnOk result (core.new.geometry ≡ core.old.geometry) }
@@ -141,27 +107,54 @@ impl Play {
         self.print_unless(done, b"idle", line)
     }
 
-    // Gives the session these bytes and a line end. One that is closed takes nothing, and a line is printed.
-    fn say(
+    // Gives the session these bytes, and those of the end after them. One that is closed takes nothing, and a line is
+    // printed.
+    fn feed(
         &mut self,
         alloc: Global,
         geometry: &Geometry,
         session: SessionNumber,
         input: &[u8],
+        end: &[u8],
         line: u64,
     ) -> Result<(), AllocError>
-        requires seats { AreSeats geometry.now.item_max self.old.seats.items }
-        ensures done { OnOk result ((kept : StoreState)
-            → play_state kept self.new ≡ say geometry.now (play_state kept self.old) line session.number input.now) }
-        ensures seats { OnOk result (AreSeats geometry.now.item_max self.new.seats.items) }
+        requires places { length self.old.seats.items ≡ 16 }
+        ensures done { OnOk result ((p : play.Play) → (length p.seats ≡ 16)
+            → AreSeats geometry.now.item_max 1 p.seats self.old.seats.items → p.printed ≡ self.old.printed.items
+            → (AreSeats geometry.now.item_max 1
+            (play.feed p line session.number (input.now ++ end.now)).seats self.new.seats.items)
+            × ((play.feed p line session.number (input.now ++ end.now)).printed ≡ self.new.printed.items)) }
+        ensures places { OnOk result (length self.new.seats.items ≡ 16) }
     {
         let mut seat = self.take_seat(alloc, geometry.item_max, session);
-        let taken = seat.take_input(input)?;
+        let taken = give_both(&mut seat, input, end)?;
         self.put_seat(session, seat);
         self.print_unless(taken, b"closed", line)
     }
 
-    // A turn of the session: does the commands that it has read.
+    // The session's next turn. Where there is none, a line is printed.
+    fn turn<J: Journal>(
+        &mut self,
+        alloc: Global,
+        core: &mut Core<J>,
+        session: SessionNumber,
+        line: u64,
+    ) -> Result<(), AllocError>
+        requires going { TraceGoesOn core.old self.old }
+        ensures done { OnOk result ((p : play.Play) → IsPlay p core.old self.old
+            → IsPlay (play.turn core.old.geometry p line session.number) core.new self.new) }
+        ensures places { OnOk result (length self.new.seats.items ≡ 16) }
+        ensures tells { OnOk result (IsTrue (is_some core.new.told)) }
+        ensures geometry { OnOk result (core.new.geometry ≡ core.old.geometry) }
+    {
+        a_seat_has_the_next_number();
+        let mut seat = self.take_seat(alloc, core.geometry().item_max, session);
+        let turn = seat.turn(alloc, core)?;
+        self.put_seat(session, seat);
+        self.print_turn(turn, line)
+    }
+
+    // All turns of the session: does the commands that it was given.
     fn run<J: Journal>(
         &mut self,
         alloc: Global,
@@ -169,35 +162,34 @@ impl Play {
         session: SessionNumber,
     ) -> Result<(), AllocError>
         requires going { TraceGoesOn core.old self.old }
-        ensures done { OnOk result (state_of core.new self.new
-            ≡ run core.old.geometry (state_of core.old self.old) session.number) }
-        ensures seats { OnOk result (AreSeats core.old.geometry.item_max self.new.seats.items) }
+        ensures done { OnOk result ((p : play.Play) → IsPlay p core.old self.old
+            → IsPlay (play.run core.old.geometry p session.number) core.new self.new) }
+        ensures places { OnOk result (length self.new.seats.items ≡ 16) }
         ensures tells { OnOk result (IsTrue (is_some core.new.told)) }
         ensures geometry { OnOk result (core.new.geometry ≡ core.old.geometry) }
     {
+        a_seat_has_the_next_number();
         let mut seat = self.take_seat(alloc, core.geometry().item_max, session);
-        let commands = seat.session.take_commands();
-        seat.do_all(alloc, core, session, &commands)?;
-        seat.end_run();
+        seat.run(alloc, core)?;
         self.put_seat(session, seat);
         Ok(())
     }
 
     // Takes the session of this number out, a new one where it isn't made yet.
     fn take_seat(&mut self, alloc: Global, item_max: u32, session: SessionNumber) -> Seat
-        requires { AreSeats item_max self.old.seats.items }
-        ensures seat { seat_of result ≡ seat_or_new (slice_get (seats_of self.old) (session.number - 1)) }
-        ensures size { TakesUpTo item_max result }
+        requires places { length self.old.seats.items ≡ 16 }
+        ensures seat { (p : play.Play) → AreSeats item_max 1 p.seats self.old.seats.items
+            → IsSeat item_max session.number (play.seat_at p session.number) result }
         ensures seats { self.new.seats.items ≡ slice_set self.old.seats.items (session.number - 1) None }
         ensures printed { self.new.printed.items ≡ self.old.printed.items }
     {
         let made = std::mem::replace(&mut self.seats[session.index()], None);
-        made_or_new(alloc, item_max, made)
+        made_or_new(alloc, item_max, session, made)
     }
 
     // Puts it back.
     fn put_seat(&mut self, session: SessionNumber, seat: Seat)
-        requires sixteen { length self.old.seats.items ≡ 16 }
+        requires places { length self.old.seats.items ≡ 16 }
         ensures seats { self.new.seats.items ≡ slice_set self.old.seats.items (session.number - 1) (Some seat) }
         ensures printed { self.new.printed.items ≡ self.old.printed.items }
     {
@@ -213,6 +205,27 @@ impl Play {
         if done {
             return Ok(());
         }
+        self.print(word, line)
+    }
+
+    // Prints the line of a session's turn where there was none.
+    fn print_turn(&mut self, turn: Turn, line: u64) -> Result<(), AllocError>
+        ensures printed { OnOk result (self.new.printed.items ≡ with_turn_line self.old.printed.items line turn) }
+        ensures seats { OnOk result (self.new.seats.items ≡ self.old.seats.items) }
+    {
+        match turn {
+            Turn::Taken => Ok(()),
+            Turn::Idle => self.print(b"idle", line),
+            Turn::Closed => self.print(b"closed", line),
+        }
+    }
+
+    // Prints the word and the line's number.
+    fn print(&mut self, word: &[u8], line: u64) -> Result<(), AllocError>
+        ensures printed { OnOk result (self.new.printed.items
+            ≡ self.old.printed.items ++ word.now ++ 32 ∷ decimal line ++ 10 ∷ []) }
+        ensures seats { OnOk result (self.new.seats.items ≡ self.old.seats.items) }
+    {
         self.printed.extend_from_slice(word)?;
         self.printed.extend_from_slice(b" ")?;
         self.printed
@@ -221,12 +234,27 @@ impl Play {
     }
 }
 
+// Gives the session these bytes, and those of the end after them, and answers whether it took them: one that is closed
+// takes nothing.
+fn give_both(seat: &mut Seat, input: &[u8], end: &[u8]) -> Result<bool, AllocError>
+    ensures taken { IfOk result (λ taken. taken ≡ not seat.old.closed) }
+    ensures heard { IfOk result (λ taken. (item_max number : ℕ) (s : play.Seat) → IsSeat item_max number s seat.old
+        → IsSeat item_max number (if taken then play.seat_with_more s (input.now ++ end.now) else s) seat.new) }
+{
+    if seat.is_closed() {
+        return Ok(false);
+    }
+    seat.give(input)?;
+    seat.give(end)?;
+    Ok(true)
+}
+
 // Does it, and answers whether there was something to do.
 fn do_upkeep<J: Journal>(core: &mut Core<J>, kind: Upkeep) -> Result<bool, AllocError>
     ensures done { OnOk result (Becomes core.old
-        (upkeep_call core.old.geometry core.old.cache core.old.desk kind) core.new) }
+        (play.upkeep_call core.old.geometry core.old.cache core.old.desk kind) core.new) }
     ensures answer { IfOk result (λ done. done
-        ≡ (upkeep_call core.old.geometry core.old.cache core.old.desk kind).answer) }
+        ≡ (play.upkeep_call core.old.geometry core.old.cache core.old.desk kind).answer) }
 {
     match kind {
         Upkeep::Room => Ok(core.make_room()?.is_some()),
@@ -235,18 +263,12 @@ fn do_upkeep<J: Journal>(core: &mut Core<J>, kind: Upkeep) -> Result<bool, Alloc
     }
 }
 
-fn made_or_new(alloc: Global, item_max: u32, made: Option<Seat>) -> Seat
-    requires { ForSome made (TakesUpTo item_max) }
-    ensures seat { seat_of result ≡ seat_or_new (Some (option_map seat_of made)) }
-    ensures size { TakesUpTo item_max result }
+fn made_or_new(alloc: Global, item_max: u32, session: SessionNumber, made: Option<Seat>) -> Seat
+    ensures { (seat : Option play.Seat) → IsMade item_max session.number seat made
+        → IsSeat item_max session.number (play.seat_or_new (Some seat)) result }
 {
     match made {
         Some(seat) => seat,
-        None => Seat {
-            session: Session::new(alloc, item_max),
-            last: 0,
-            replies: Vec::new(alloc),
-            closed: false,
-        },
+        None => Seat::new(alloc, session, item_max),
     }
 }

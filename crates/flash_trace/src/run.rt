@@ -3,21 +3,21 @@ ghost use Rattle.flash_trace.specs.CommandLine.{journal_wanted};
 ghost use Rattle.flash_trace.specs.Ends.{EndsOf, IsAsked, IsTraced, writes_nothing};
 ghost use Rattle.flash_trace.specs.Outside.{source_change, sink_change, device_change};
 ghost use Rattle.flash_trace.specs.Output.{output};
-ghost use Rattle.flash_trace.specs.Playing.{play_from};
-ghost use Rattle.flash_trace.specs.CodeScripts.{AreWithin, script_meant, step_meant};
-ghost use Rattle.flash_trace.specs.Scripts.{fault_of, script_of};
-ghost use Rattle.flash_trace.specs.Seats.{TraceGoesOn, state_of};
+ghost use Rattle.flash_play.specs.Playing as playing;
+ghost use Rattle.flash_script.specs.CodeScripts.{AreWithin, script_meant, step_meant};
+ghost use Rattle.flash_script.specs.Scripts.{fault_of, script_of};
+ghost use Rattle.flash_trace.specs.Seats.{IsPlay, TraceGoesOn};
 
 use crate::fault::Status;
 use crate::laws::every_trace_is_right;
 use crate::output::{fault_output, play_output};
 use crate::play::Play;
-use crate::script::{MAX_BYTES, NotRead, Script, read_script};
-use crate::step::Step;
 use flash_core::Core;
 use flash_device::{Device, PrepareError};
 use flash_entry::Kept;
 use flash_names::{Blob, Sink, SinkFault, Source};
+use flash_play::steps_leave_numbers_new;
+use flash_script::{MAX_BYTES, NotRead, Script, Step, read_script};
 use flash_streams::{ReadError, read_all, write_all};
 use std::alloc::{AllocError, Global};
 
@@ -163,10 +163,10 @@ fn play_steps(
 ) -> Result<(), AllocError>
     requires going { TraceGoesOn core.old play.old }
     requires within { AreWithin (length bytes.now) steps.now }
-    ensures done { OnOk result (state_of core.new play.new
-        ≡ play_from core.old.geometry (state_of core.old play.old) 2 (map (step_meant bytes.now) steps.now)) }
-    ensures tells { OnOk result (IsTrue (is_some core.new.told)) }
+    ensures done { OnOk result ((p : playing.Play) → IsPlay p core.old play.old
+        → IsPlay (playing.play_from core.old.geometry p 2 (map (step_meant bytes.now) steps.now)) core.new play.new) }
 {
+    steps_leave_numbers_new();
     let mut line = 1u64;
     'steps: for step in steps {
         line += 1;

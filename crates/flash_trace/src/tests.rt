@@ -1,6 +1,7 @@
 use super::*;
 use flash_device::MemoryDevice;
 use flash_names::{Blob, MemorySink, MemorySource};
+use flash_script::{ScriptFault, Why};
 use std::alloc::{AllocError, Global};
 use std::test::Fail;
 
@@ -178,8 +179,12 @@ fn plays_sessions(rt: HostRuntime) -> Result<(), Fail> {
             "session 1 28\nSTORED\r\nVALUE a 7 0\r\n\r\nEND\r\n\nend 4\n",
         ),
         (
-            "say 1 set a 0 0 1025\nsay 1 get\nsay 1 get a b\nrun 1\n",
-            "session 1 21\nERROR\r\nERROR\r\nERROR\r\n\nend 4\n",
+            "say 1 get\nsay 1 get a b\nsay 1 set a 0 0 1025\nsay 1 get a\nrun 1\n",
+            "session 1 53\nERROR\r\nEND\r\nSERVER_ERROR object too large for cache\r\n\nend 5\n",
+        ),
+        (
+            "say 1 set n 0 0 1\nsay 1 9\nsay 1 incr n 1\nsay 1 mg n v\nrun 1\n",
+            "session 1 22\nSTORED\r\n10\r\nVA 2\r\n10\r\n\nend 5\n",
         ),
     ];
     for (steps, wanted) in table {

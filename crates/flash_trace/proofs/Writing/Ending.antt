@@ -4,16 +4,16 @@ use Rattle.std.proofs.lemmas.Bool.{lt-ltb}
 use Rattle.std.proofs.lemmas.List.{append-nil}
 use Rattle.flash_names.specs.Source.{IsAtEnd}
 use Rattle.flash_names.specs.Faults.{Rose}
-use Rattle.flash_trace.specs.declared.fault.ScriptFault.{ScriptFault}
+use Rattle.flash_script.specs.declared.fault.ScriptFault.{ScriptFault}
 use Rattle.flash_trace.specs.declared.fault.Status.{Status}
 use Rattle.flash_trace.specs.declared.fault.Status.TheVariants as statuses
 use Rattle.flash_streams.specs.Reading.{HasRead}
 use Rattle.flash_streams.proofs.Left.{leaves}
 use Rattle.flash_trace.specs.Ends.{Ends, EndsOf, IsRead, HasReading, IsPrepared, IsAsked, IsComplete, IsTraced, EveryTraceIsRight}
 use Rattle.flash_trace.specs.Outside.{SourceChange, SinkChange, DeviceChange}
-use Rattle.flash_trace.specs.declared.fault.Why.TheVariants.{TooLong}
-use Rattle.flash_streams.specs.Lines.{lines_of}
-use Rattle.flash_trace.specs.Scripts.{Script, fault_of, script_of, script_of_lines, too_long, lines_fault}
+use Rattle.flash_script.specs.declared.fault.Why.TheVariants.{TooLong}
+use Rattle.flash_names.specs.Cut.{cut_at}
+use Rattle.flash_script.specs.Scripts.{Script, fault_of, script_of, cut_script, too_long, cut_fault}
 
 -- bytes that are lent were read as they are
 pub read_bytes : (lent bytes : List ℕ) (left left_after : Option (List ℕ)) → lent ≡ bytes → HasRead 16777216 bytes left left_after → HasRead 16777216 lent left left_after
@@ -21,16 +21,16 @@ read_bytes lent bytes left left_after same read = subst (λ (l : List ℕ). HasR
 
 -- a script that is longer than it may be is a fault
 pub long_fault : (bytes : List ℕ) → 16777216 < length bytes → fault_of bytes ≡ Some (record { line = 0; why = TooLong })
-long_fault bytes long = ap (λ b. if b then too_long else lines_fault (lines_of bytes)) (lt-ltb 16777216 (length bytes) long)
+long_fault bytes long = ap (λ b. if b then too_long else cut_fault (cut_at 10 bytes)) (lt-ltb 16777216 (length bytes) long)
 
 long_is_bad : (bytes : List ℕ) → 16777216 < length bytes → fault_of bytes ≡ None → ⊥
 long_is_bad bytes long good =
     let clash : Some (record { line = 0; why = TooLong }) ≡ None = sym (long_fault bytes long) ∙ good in absurd (cc clash)
 
 -- a script that is read has no bad line
-good_script : (found : Option ScriptFault) (lines : Option Script) (script : Script) → (if is_none found then lines else None) ≡ Some script → found ≡ None
-good_script None lines script reading = refl
-good_script (Some fault) lines script reading = absurd (cc reading)
+good_script : (found : Option ScriptFault) (read : Option Script) (script : Script) → (if is_none found then read else None) ≡ Some script → found ≡ None
+good_script None read script reading = refl
+good_script (Some fault) read script reading = absurd (cc reading)
 
 module _ (wanted : Option Bool) (untouched : Type 0) (source : SourceChange) (sink : SinkChange) (device : DeviceChange) where
   -- the words ask for something else
@@ -53,7 +53,7 @@ module _ (wanted : Option Bool) (untouched : Type 0) (source : SourceChange) (si
     at_end : (script : Script) → script_of bytes ≡ Some script → IsAtEnd source.left_after
     at_end script reading = elim read.whole [
       | inl end ↦ end
-      | inr long ↦ absurd (long_is_bad bytes long (good_script (fault_of bytes) (script_of_lines (lines_of bytes)) script reading))
+      | inr long ↦ absurd (long_is_bad bytes long (good_script (fault_of bytes) (cut_script (cut_at 10 bytes)) script reading))
     ]
 
     ends_so : EveryTraceIsRight → (status : Status) → EndsOf bytes journal sink device status → Ends wanted source sink device status

@@ -16,4 +16,9 @@ returns c = every_play (record {
   reaping = c.each_reaping_goes_on.ensures;
   juggling = c.each_juggling_goes_on.ensures;
   none = c.no_items_are_listed.ensures;
-}) (record { goes_on = c.more_bytes_go_on.ensures; stays = c.an_end_stays.ensures })
+}) (record {
+  goes_on = c.more_bytes_go_on.ensures;
+  stays = c.an_end_stays.ensures;
+  joined_are = c.pieces_are_the_replies.ensures;
+  pieces = c.pieces_go_on.ensures;
+})

@@ -1,4 +1,5 @@
-use Rattle.std.proofs.Common.{refl, sym, subst}
+use Rattle.std.proofs.Common.{rules, ◌≡◌, [], refl, sym, subst}
+use Rattle.std.proofs.lemmas.List.{nil_from_length}
 use Rattle.flash_session.specs.States.{front_now}
 use Rattle.flash_session.specs.Todos.{HasReadOn}
 use Rattle.flash_session.proofs.ReadingOn.{reads_more}
@@ -18,5 +19,6 @@ fronts-smaller c =
 
 pub fronts-preserved : goal.fronts-preserved
 fronts-preserved c =
-    reads_more _ c.fronts.self c.read_at_once.new.self c.a_read_goes_on.ensures c.fronts.invariant
+    let empty : c.fronts.self.out ≡ [] = nil_from_length c.fronts.self.out (search rules) in
+    reads_more _ c.fronts.self c.read_at_once.new.self c.a_read_goes_on.ensures c.a_read_holds_a_piece.ensures c.fronts.invariant empty
     (c.in_ok-read_at_once.ensures.read c.if-not-branch.false)

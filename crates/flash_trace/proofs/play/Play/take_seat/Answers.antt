@@ -9,5 +9,4 @@ returns-clause-seat c =
     let taken = c.replace-made.ensures.value in
     let there : c.replace-made.result ≡ get_or seats index c.replace-made.result =
     taken ∙ c.index_mut.ensures.value ∙ ap (λ seat. get_or seats index seat) (sym taken) in
-    c.made_or_new.ensures.seat
-    ∙ seat_at_place seats c.args.session.number index c.index.ensures.index c.replace-made.result c.requires.sixteen c.index.ensures.within there
+    λ p are. seat_at_place c.args.item_max c.args.session.number index seats c.replace-made.result c.index.ensures.index c.requires.places c.index.ensures.within there p c.made_or_new.result c.made_or_new.ensures are

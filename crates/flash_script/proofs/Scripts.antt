@@ -1,0 +1,11 @@
+pub mod Cuts
+pub mod Feeds
+pub mod FirstLine
+pub mod Fronts
+pub mod Laws
+pub mod Readings
+pub mod Seats
+pub mod StepAt
+pub mod StepLoop
+pub mod StepWords
+pub mod Words

@@ -1,0 +1,4 @@
+pub mod CodeScripts
+pub mod ScriptLaws
+pub mod Scripts
+pub mod Steps

@@ -1,5 +1,0 @@
-use Rattle.flash_trace.proofs.Answering.Fronts.{each_front}
-use Rattle.flash_trace.proofs.laws.each_front_makes_a_front.Goals as goal
-
-pub returns : goal.returns
-returns c = each_front

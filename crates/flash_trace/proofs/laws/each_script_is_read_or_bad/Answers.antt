@@ -1,5 +1,0 @@
-use Rattle.flash_trace.proofs.Scripts.Readings.{read_or_bad}
-use Rattle.flash_trace.proofs.laws.each_script_is_read_or_bad.Goals as goal
-
-pub returns : goal.returns
-returns c = read_or_bad
