@@ -2,6 +2,7 @@ mod Lists
 mod Behind
 mod Staying
 mod Recorded
+mod Noting
 mod Telling
 mod Leaving
 mod Numbering

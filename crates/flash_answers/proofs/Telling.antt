@@ -65,7 +65,7 @@ module _ (g : Geometry) (h : List Entry) (c : Cache) (desk : Desk) (id : Id) whe
   found_by false head value = refl
 
   -- what a lookup's entry gives is what the call answered
-  found_told : (d : Cache) (look : Look) (live : Option Item) → found_outcome d look live ≡ told_found (found_of d look live)
+  pub found_told : (d : Cache) (look : Look) (live : Option Item) → found_outcome d look live ≡ told_found (found_of d look live)
   found_told d look None = refl
   found_told d look (Some item) = found_by look.value (head_of_item d look item) item.value
 

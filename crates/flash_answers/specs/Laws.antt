@@ -4,17 +4,21 @@ use Rattle.flash_names.specs.declared.place.Id.{Id}
 use Rattle.flash_names.specs.declared.geometry.Geometry.{Geometry}
 use Rattle.flash_entry.specs.declared.ask.Ask.{Ask}
 use Rattle.flash_entry.specs.declared.entry.Entry.{Entry}
+use Rattle.flash_entry.specs.declared.found.Told.{Told}
 use Rattle.flash_entry.specs.declared.found.Told.TheVariants as told
 use Rattle.flash_machine.specs.Cache.{Cache, first_cache}
+use Rattle.flash_machine.specs.Legal.{Legal}
 use Rattle.flash_machine.specs.Moments.{last_moment}
 use Rattle.flash_machine.specs.NewSteps.{IsNew}
+use Rattle.flash_machine.specs.Steps.{cache_of}
 use Rattle.flash_core.specs.Store.{Desk, Call}
 use Rattle.flash_core.specs.Calls.{clock_call, room_call, reap_call, juggle_call}
 use Rattle.flash_core.specs.Laws.{IsRunning, LeavesARun}
+use Rattle.flash_core.specs.Sound.{IsRun}
 use Rattle.flash_answers.specs.AskCalls.{ask_call}
 use Rattle.flash_answers.specs.InMemory.{AreHere}
-use Rattle.flash_answers.specs.Outcomes.{outcome_from, outcome, outcomes, HasEntry, HaveEntries}
-use Rattle.flash_answers.specs.Records.{AreOf, AreOfNoStep, Keeps}
+use Rattle.flash_answers.specs.Outcomes.{entry_outcome, outcome_from, outcome, outcomes, HasEntry, HaveEntries}
+use Rattle.flash_answers.specs.Records.{entry_ask, AreOf, AreOfNoStep, Keeps}
 
 -- a run goes on by any step, where its number is new and all items are in memory; and all are in memory after it
 abbrev pub EachAskGoesOn : Type 0
@@ -45,6 +49,21 @@ EachAnswerIsAdded =
 abbrev pub EachAskRecordsItself : Type 0
 EachAskRecordsItself =
     (g : Geometry) (c : Cache) (desk : Desk) (id : Id) (ask : Ask) → AreOf id ask (ask_call g c desk id ask).entries
+
+-- what a step notes: entries of no step, which leave the moment, and then its own with what was asked; where the journal
+-- with them is a run, its own tells what the step was told, whether items are in memory or not
+pub record NotesItself (g : Geometry) (c : Cache) (h : List Entry) (id : Id) (ask : Ask) (call : Call Told) : Type 0 where
+  pub more : List Entry
+  pub own : Entry
+  pub whole : call.entries ≡ more ++ own ∷ []
+  pub others : AreOfNoStep more
+  pub asked : entry_ask own ≡ Some (id, ask)
+  pub told : Legal g (h ++ call.entries) → entry_outcome (h ++ more) (cache_of g (h ++ more)) id own ≡ Some call.answer
+  pub moment : (cache_of g (h ++ more)).now ≡ c.now
+
+abbrev pub EachAskNotesItself : Type 0
+EachAskNotesItself = (g : Geometry) (c : Cache) (h : List Entry) (desk : Desk) (id : Id) (ask : Ask) → IsRun g c h
+    → NotesItself g c h id ask (ask_call g c desk id ask)
 
 -- no step changes the moment
 abbrev pub AskLeavesTheMoment : Type 0

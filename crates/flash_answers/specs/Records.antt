@@ -1,5 +1,5 @@
 -- Which steps entries record, and with what was asked.
-use Rattle.std.specs.Prelude.{◌≡◌, ℕ, ◌-◌, ◌≤◌, List, slice_get, Option, None, Some}
+use Rattle.std.specs.Prelude.{◌≡◌, ◌≢◌, ℕ, ◌-◌, ◌≤◌, List, slice_get, Option, None, Some}
 use Rattle.std.specs.List.{AllByRecursion}
 use Rattle.std.specs.Option.{ForSome}
 use Rattle.flash_names.specs.declared.place.Id.{Id}
@@ -36,6 +36,14 @@ AreOf id ask es = AllByRecursion (IsOf id ask) es
 -- these entries record no step
 abbrev pub AreOfNoStep : List Entry → Type 0
 AreOfNoStep es = AllByRecursion (λ e. entry_ask e ≡ None) es
+
+-- an entry records no step of this pass
+abbrev pub IsOfOther : ℕ → Entry → Type 0
+IsOfOther pass e = ForSome (entry_ask e) (λ step. step.0.pass ≢ pass)
+
+-- these entries record no step of this pass
+abbrev pub AreOfOthers : ℕ → List Entry → Type 0
+AreOfOthers pass es = AllByRecursion (IsOfOther pass) es
 
 -- where the step is one of the pass, it has the number and the ask of one of these
 abbrev pub IsOneOf : ℕ → List Ask → Id × Ask → Type 0

@@ -1,6 +1,6 @@
 // Laws of any step. Each function's contract is the law; its body calls the laws of the store that the law rests on, or
 // is empty, and does nothing.
-ghost use Rattle.flash_answers.specs.Laws.{EachAskGoesOn, EachAskIsTold, EachAnswerIsAdded, EachAskRecordsItself};
+ghost use Rattle.flash_answers.specs.Laws.{EachAskGoesOn, EachAskIsTold, EachAnswerIsAdded, EachAskRecordsItself, EachAskNotesItself};
 ghost use Rattle.flash_answers.specs.Laws.{AskLeavesTheMoment, OutcomesAreInOrder, OutcomesStay, NumbersStayNew};
 ghost use Rattle.flash_answers.specs.Laws.{ANewStepHasNoEntry, AsksAreKept, CallsOfNoSession, NoItemsAreHere};
 
@@ -38,6 +38,12 @@ pub fn each_answer_is_added()
 /// What a step notes records that step, with what was asked, and no other step.
 pub fn each_ask_records_itself()
     ensures { EachAskRecordsItself }
+{}
+
+/// What a step notes is entries of no step and then its own, which tells what the step was told where the journal with
+/// them is a run, whether all items are in memory or not.
+pub fn each_ask_notes_itself()
+    ensures { EachAskNotesItself }
 {}
 
 /// No step changes the moment.

@@ -17,8 +17,8 @@ pub use examples::worked_example;
 pub use laws::{
     a_new_step_has_no_entry, an_ask_leaves_the_moment, asks_are_kept,
     calls_of_no_session_record_no_step, each_answer_is_added, each_ask_goes_on, each_ask_is_told,
-    each_ask_records_itself, no_items_are_here, numbers_stay_new, outcomes_are_in_order,
-    outcomes_stay,
+    each_ask_notes_itself, each_ask_records_itself, no_items_are_here, numbers_stay_new,
+    outcomes_are_in_order, outcomes_stay,
 };
 
 #[cfg(test)]

@@ -11,3 +11,4 @@ pub mod Counting
 pub mod Open
 pub mod Sound
 pub mod Laws
+pub mod SharedStore

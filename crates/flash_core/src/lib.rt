@@ -21,6 +21,7 @@ mod look;
 mod noting;
 mod numbers;
 mod room;
+mod shared;
 mod sought;
 mod state;
 mod store;

@@ -1,7 +1,6 @@
 use super::*;
 use flash_names::{Blob, Geometry, Id, Key, Label, Place};
 use std::alloc::{AllocError, Global};
-use std::process::Abort;
 use std::test::Fail;
 
 const ID: Id = Id { pass: 3, seq: 7 };
@@ -15,20 +14,6 @@ const PLACE: Place = Place {
     label: LABEL,
     offset: 256,
     length: 133,
-};
-
-const SUMMED: Summed = Summed {
-    number: 1,
-    cas: 2,
-    left: -1,
-};
-
-const TALLY: Tally = Tally {
-    items: 1,
-    load: 2,
-    last_cas: 3,
-    now: 4,
-    free_pages: 5,
 };
 
 const GEOMETRY: Geometry = Geometry {
@@ -60,20 +45,6 @@ fn put(alloc: Global) -> Result<Put, AllocError> {
     })
 }
 
-fn arith() -> Result<Arith, AllocError> {
-    Ok(Arith {
-        key: key()?,
-        down: true,
-        delta: 5,
-        compare: None,
-        renew: Some(-3),
-        create: Some(Create {
-            exptime: 60,
-            start: 18,
-        }),
-    })
-}
-
 fn hit(alloc: Global) -> Result<Hit, AllocError> {
     Ok(Hit {
         head: Head {
@@ -88,98 +59,10 @@ fn hit(alloc: Global) -> Result<Hit, AllocError> {
     })
 }
 
-fn did(done: Done) -> Entry {
-    Entry::Did(ID, done)
-}
-
-// The entry's line is this one.
-fn check(rt: &impl Abort, alloc: Global, entry: &Entry, line: &str) {
-    let printed = print_entry(alloc, entry);
-    assert!(rt;
-        printed.is_ok_and(|text| text.bytes() == line.as_bytes()),
-        "{line}"
-    );
-}
-
-#[test]
-fn prints_steps(rt: HostRuntime) -> Result<(), Fail> {
-    let alloc = rt.alloc();
-    let store = Done::Store(put(alloc)?, Stored::Stored(1));
-    let delete = Done::Delete(key()?, None, Gone::NotFound);
-    let sum = Done::Sum(arith()?, Sum::Created(SUMMED));
-    let touch = Done::Touch(key()?, 10, Touched::Touched);
-    let table = [
-        (Entry::Clock(5), "clock 5\n"),
-        (did(store), "did 3 7 set 61 1 -1 4 6869ff = stored 1\n"),
-        (did(delete), "did 3 7 delete 61 - = not-found\n"),
-        (did(sum), "did 3 7 down 61 5 - -3 60 18 = created 1 2 -1\n"),
-        (did(touch), "did 3 7 touch 61 10 = touched\n"),
-        (did(Done::Flush(0)), "did 3 7 flush 0 = ok\n"),
-        (did(Done::Stats(TALLY)), "did 3 7 stats = 1 2 3 4 5\n"),
-    ];
-    for (entry, line) in &table {
-        check(&rt, alloc, entry, line);
-    }
-    Ok(())
-}
-
-#[test]
-fn prints_lookups(rt: HostRuntime) -> Result<(), Fail> {
-    let alloc = rt.alloc();
-    let look = Look {
-        value: true,
-        renew: None,
-    };
-    let renewing = Look {
-        value: false,
-        renew: Some(9),
-    };
-    let here = Entry::Looked(ID, key()?, look, Residence::Here(1));
-    let away = Entry::Looked(ID, key()?, renewing, Residence::Away(1, LABEL));
-    let ended = Entry::ReadEnded(ID, Some(Blob::from_slice(alloc, b"\x00\x0f")?));
-    let hit = Entry::Closed(ID, Close::Hit(1, 2, Blob::from_slice(alloc, b"")?));
-    let lost = Entry::Closed(ID, Close::Lost(Cause::Damaged));
-    let table = [
-        (here, "looked 3 7 61 v - = 1 here\n"),
-        (away, "looked 3 7 61 h 9 = 1 2 9\n"),
-        (Entry::FromBuffer(ID, PLACE), "buffered 3 7 2 9 256 133\n"),
-        (
-            Entry::ReadBegan(ID, PLACE, 0),
-            "read-began 3 7 2 9 256 133 0\n",
-        ),
-        (ended, "read-ended 3 7 000f\n"),
-        (Entry::ReadEnded(ID, None), "read-ended 3 7 failed\n"),
-        (hit, "closed 3 7 hit 1 2 -\n"),
-        (lost, "closed 3 7 lost damaged\n"),
-    ];
-    for (entry, line) in &table {
-        check(&rt, alloc, entry, line);
-    }
-    Ok(())
-}
-
-#[test]
-fn prints_items_and_pages(rt: HostRuntime) -> Result<(), Fail> {
-    let alloc = rt.alloc();
-    let moved = Entry::Moved(key()?, 2, LABEL);
-    let recached = Entry::Recached(key()?, 2);
-    let dropped = Entry::Dropped(key()?, DropCause::Evict);
-    let written = Entry::WriteEnded(PLACE, Some(Blob::from_slice(alloc, b"\x00\x0f")?));
-    let ended = Entry::Ended(LABEL, EndCause::Compacted);
-    let table = [
-        (moved, "moved 61 2 2 9\n"),
-        (recached, "recached 61 2\n"),
-        (dropped, "dropped 61 evict\n"),
-        (Entry::WriteBegan(PLACE), "write-began 2 9 256 133\n"),
-        (written, "write-ended 2 9 256 133 000f\n"),
-        (Entry::Opened(LABEL), "opened 2 9\n"),
-        (ended, "ended 2 9 compacted\n"),
-        (Entry::Freed(LABEL), "freed 2 9\n"),
-    ];
-    for (entry, line) in &table {
-        check(&rt, alloc, entry, line);
-    }
-    Ok(())
+// Whether the entry's line is this one.
+fn is_printed_as(alloc: Global, entry: &Entry, line: &str) -> Result<bool, AllocError> {
+    let text = print_entry(alloc, entry)?;
+    Ok(text.bytes() == line.as_bytes())
 }
 
 #[test]
@@ -215,67 +98,53 @@ fn names_the_first_fault_of_a_head(rt: HostRuntime) {
     }
 }
 
-#[test]
-fn keeps_and_counts(rt: HostRuntime) -> Result<(), Fail> {
-    let alloc = rt.alloc();
-    let stored = put(alloc)?;
-    let did = Note::Did(ID, DoneNote::Store(&stored, Stored::Exists));
-    let dropped = Note::Dropped(&stored.key, DropCause::Dead);
+// Whether a journal that keeps its entries has this line after the note.
+fn is_kept_as(alloc: Global, note: Note<'_>, line: &str) -> Result<bool, AllocError> {
     let mut kept = Kept::new(alloc);
-    kept.note(dropped, Some(did), None, Some(Note::Clock(1)))?;
-    let mut text = Vec::new(alloc);
-    for entry in kept.entries() {
-        text.extend_from_slice(print_entry(alloc, entry)?.bytes())?;
+    kept.note(note, None, None, None)?;
+    match kept.entries() {
+        [entry] => is_printed_as(alloc, entry, line),
+        _ => Ok(false),
     }
-    assert_eq!(rt;
-        text.as_slice(),
-        b"dropped 61 dead\ndid 3 7 set 61 1 -1 4 6869ff = exists\nclock 1\n".as_slice()
-    );
-    let mut counted = Counted::new();
-    counted.note(dropped, Some(did), None, Some(Note::Clock(1)))?;
-    assert_eq!(rt; counted.entries(), 3);
-    Ok(())
 }
 
 #[test]
 fn keeps_values_and_bytes(rt: HostRuntime) -> Result<(), Fail> {
     let alloc = rt.alloc();
-    let hit = hit(alloc)?;
     let bytes = b"\x00\x0f".as_slice();
-    let table = [
-        (Note::ReadEnded(ID, Some(bytes)), "read-ended 3 7 000f\n"),
-        (Note::ReadEnded(ID, None), "read-ended 3 7 failed\n"),
-        (
-            Note::WriteEnded(PLACE, Some(bytes)),
-            "write-ended 2 9 256 133 000f\n",
-        ),
-        (
-            Note::WriteEnded(PLACE, None),
-            "write-ended 2 9 256 133 failed\n",
-        ),
-        (
-            Note::Closed(ID, CloseNote::Hit(&hit)),
-            "closed 3 7 hit 1 2 6869\n",
-        ),
-        (
-            Note::Closed(ID, CloseNote::Lost(Cause::Fault)),
-            "closed 3 7 lost fault\n",
-        ),
-    ];
+    let read = Note::ReadEnded(ID, Some(bytes));
+    assert!(rt; is_kept_as(alloc, read, "read-ended 3 7 000f\n")?);
+    let written = Note::WriteEnded(PLACE, Some(bytes));
+    assert!(rt; is_kept_as(alloc, written, "write-ended 2 9 256 133 000f\n")?);
+    let unwritten = Note::WriteEnded(PLACE, None);
+    assert!(rt; is_kept_as(alloc, unwritten, "write-ended 2 9 256 133 failed\n")?);
+    let hit = hit(alloc)?;
+    let closed = Note::Closed(ID, CloseNote::Hit(&hit));
+    assert!(rt; is_kept_as(alloc, closed, "closed 3 7 hit 1 2 6869\n")?);
+    Ok(())
+}
+
+// Notes three entries at once.
+fn note_three<J: Journal>(journal: &mut J, put: &Put) -> Result<(), AllocError> {
+    let did = Note::Did(ID, DoneNote::Store(put, Stored::Exists));
+    let dropped = Note::Dropped(&put.key, DropCause::Dead);
+    journal.note(dropped, Some(did), None, Some(Note::Clock(1)))
+}
+
+#[test]
+fn keeps_and_counts(rt: HostRuntime) -> Result<(), Fail> {
+    let alloc = rt.alloc();
+    let put = put(alloc)?;
     let mut kept = Kept::new(alloc);
-    for (note, _) in &table {
-        kept.note(*note, None, None, None)?;
-    }
-    assert_eq!(rt; kept.entries().len(), table.len());
-    for (entry, (_, line)) in kept.entries().iter().zip(&table) {
-        check(&rt, alloc, entry, line);
-    }
-    let close = CloseNote::Hit(&hit).to_close(alloc)?;
-    check(
-        &rt,
-        alloc,
-        &Entry::Closed(ID, close),
-        "closed 3 7 hit 1 2 6869\n",
-    );
+    note_three(&mut kept, &put)?;
+    let mut counted = Counted::new();
+    note_three(&mut counted, &put)?;
+    assert_eq!(rt; counted.entries(), 3);
+    let [first, second, third] = kept.entries() else {
+        panic!(rt; "not three entries")
+    };
+    assert!(rt; is_printed_as(alloc, first, "dropped 61 dead\n")?);
+    assert!(rt; is_printed_as(alloc, second, "did 3 7 set 61 1 -1 4 6869ff = exists\n")?);
+    assert!(rt; is_printed_as(alloc, third, "clock 1\n")?);
     Ok(())
 }

@@ -1,7 +1,8 @@
 ghost use Rattle.std.specs.Prelude.{◌≡◌};
-ghost use Rattle.flash_server.specs.Statuses.{check_end, exit_status, trace_end};
+ghost use Rattle.flash_server.specs.Statuses.{check_end, exit_status, serve_end, trace_end};
 
 use flash_check::CheckStatus;
+use flash_serve::ServeStatus;
 use flash_trace::Status;
 
 /// How the program ends.
@@ -13,6 +14,10 @@ pub enum End {
     Illegal,
     /// The words are wrong.
     Usage,
+    /// The words of `serve` are wrong, and it was said why.
+    Refused,
+    /// The sizes of the store break the rule of this number.
+    Geometry(u32),
     /// The script or the journal has a bad line.
     BadLine,
     /// Standard input failed.
@@ -23,6 +28,8 @@ pub enum End {
     DeviceFault,
     /// Memory ran out.
     NoMemory,
+    /// The file or the network failed, and it was said how.
+    MakeFault,
 }
 
 /// How the program ends after a trace that ended so.
@@ -55,6 +62,20 @@ pub fn check_end(status: CheckStatus) -> End
     }
 }
 
+/// How the program ends after a server that ended so.
+pub fn serve_end(status: ServeStatus) -> End
+    ensures { result ≡ serve_end status }
+{
+    match status {
+        ServeStatus::Done => End::Done,
+        ServeStatus::Usage => End::Refused,
+        ServeStatus::Geometry(rule) => End::Geometry(rule),
+        ServeStatus::SinkFault => End::SinkFault,
+        ServeStatus::NoMemory => End::NoMemory,
+        ServeStatus::MakeFault => End::MakeFault,
+    }
+}
+
 /// The exit status of the program.
 pub fn exit_status(end: End) -> u8
     ensures { result ≡ exit_status end }
@@ -63,10 +84,13 @@ pub fn exit_status(end: End) -> u8
         End::Done => 0,
         End::Illegal => 1,
         End::Usage => 2,
+        End::Refused => 2,
+        End::Geometry(_) => 3,
         End::BadLine => 3,
         End::SourceFault => 4,
         End::SinkFault => 5,
         End::DeviceFault => 6,
         End::NoMemory => 7,
+        End::MakeFault => 8,
     }
 }

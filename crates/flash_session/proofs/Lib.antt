@@ -6,5 +6,6 @@ mod Asking
 mod Uniform
 mod Resting
 mod ReadingOn
+mod Lookups
 pub mod Pieces
 pub mod HoldingPieces

@@ -1,6 +1,5 @@
 -- A session that reads on.
-use Rattle.std.proofs.Common.{◌≡◌, ℕ, ◌+◌, List, [], ◌∷◌, Some, refl, sym, ◌∙◌, ap, subst}
-use Rattle.std.specs.Prelude.{Result, Ok, Err, IfOk}
+use Rattle.std.proofs.Common.{◌≡◌, ℕ, ◌+◌, true, List, [], ◌∷◌, Some, refl, sym, ◌∙◌, ap, subst}
 use Rattle.flash_entry.specs.declared.ask.Ask.{Ask}
 use Rattle.flash_reply.specs.declared.command.Command.{Command}
 use Rattle.flash_reply.specs.Lines.{refusal_line}
@@ -8,10 +7,11 @@ use Rattle.flash_reply.specs.Replies.{plain_text}
 use Rattle.flash_commands.specs.declared.place.Place.{Place}
 use Rattle.flash_commands.specs.Parts.{Asks, Refused, Front, Takes}
 use Rattle.flash_commands.specs.Asks.{asks_of}
-use Rattle.flash_session.specs.Laws.{AReadGoesOn}
+use Rattle.flash_session.specs.Laws.{AReadGoesOn, AnAskGoesOn}
 use Rattle.flash_session.specs.PieceLaws.{AReadHoldsAPiece}
-use Rattle.flash_session.specs.States.{Session, front_now, after_front, read_plain, read_at_once}
-use Rattle.flash_session.specs.Todos.{HasReadOn, IsNext, IsCounted, Needs}
+use Rattle.flash_session.specs.States.{Session, front_now, after_front, read_plain, read_at_once, ask_at}
+use Rattle.flash_session.specs.Stands.{Stands}
+use Rattle.flash_session.specs.Todos.{HasReadOn, IsFree, IsNext, IsCounted, Needs}
 use Rattle.flash_session.specs.declared.todo.Todo.{Todo}
 use Rattle.flash_session.specs.declared.todo.Todo.TheVariants.{Write, Wait, Do, Closed, Input}
 
@@ -75,7 +75,14 @@ then_needs s read next todo on needs = record {
   next = needs.next;
 }
 
--- what follows from an answer's Ok
-pub if_ok : {T E : Type 0} (r : Result T E) (P Q : T → Type 0) → ((x : T) → P x → Q x) → IfOk r P → IfOk r Q
-if_ok (Ok x) P Q follows holds = follows x holds
-if_ok (Err e) P Q follows holds = tt
+-- one that asks the step that is next
+pub asks_on : (s : Session) (ask : Ask) (seq : ℕ) → AnAskGoesOn → IsFree s → ask_at s.step (front_now s) ≡ Some ask → seq ≡ s.last + 1
+    → Needs s (Do (record { pass = s.pass; seq = seq }) ask) (record s { owed = true; last = seq })
+asks_on s ask seq law free next more = record {
+  stands = λ bytes told gone stands. subst (λ (n : ℕ). Stands bytes told gone (record s { owed = true; last = n })) (sym more) (law bytes told gone s ask free.told next stands);
+  piece = λ bytes told gone stands holds some. absurd (some free.sent);
+  pass = refl;
+  item_max = refl;
+  counted = (free.told, more);
+  next = (free.sent, refl, refl, next);
+}

@@ -1,4 +1,5 @@
 pub mod Talks
+pub mod Lookups
 pub mod States
 pub mod Stands
 pub mod Pieces

@@ -7,9 +7,14 @@
 //! session comes to need what `next` answers. The functions of `laws.rt` have no body: their contracts are laws, that each
 //! call keeps what the session stands for, that the step it asks is the next one of its bytes, and that all replies were
 //! sent where it needs more bytes.
+//!
+//! A lookup of many keys is read once: from its first step on the session keeps its keys, and where that of its next step
+//! stands among them (`lookup.rt`, `specs/Lookups.antt`). What is kept is in the session's invariant, and no other clause
+//! speaks of it.
 #![tactic(auto)]
 
 mod laws;
+mod lookup;
 mod session;
 mod steps;
 mod todo;

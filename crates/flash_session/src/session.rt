@@ -1,16 +1,17 @@
-ghost use Rattle.std.specs.Prelude.{◌≡◌, ℕ, ◌+◌, ◌≤◌, ◌<◌, List, [], min, take, length, false, true, None, Some, IfOk, OnOk, OnErr};
+ghost use Rattle.std.specs.Prelude.{◌≡◌, ℕ, ◌+◌, ◌≤◌, ◌<◌, List, [], min, take, length, false, true, None, Some, IfOk, IfSome, IsNone, OnOk, OnErr};
 ghost use Rattle.flash_reader.specs.Readers.{room_of, fed};
 ghost use Rattle.flash_session.specs.States as states;
-ghost use Rattle.flash_session.specs.States.{first_session, front_now, read_at_once, is_done, told_at, sent};
+ghost use Rattle.flash_session.specs.States.{first_session, front_now, read_at_once, ask_at, is_done, told_at, sent};
 ghost use Rattle.flash_session.specs.Todos.{HasReadOn, IsFree, IsAtRest, IsNext, IsCounted, Needs};
 ghost use Rattle.flash_commands.specs.Asks.{asks_of};
 
 use crate::laws::{a_read_goes_on, a_read_holds_a_piece, an_ask_goes_on};
+use crate::lookup::{Lookup, keep_lookup};
 use crate::steps::{ask_at, has_step};
 use crate::todo::{Ending, Todo};
 use bytes::BytesMut;
-use flash_commands::Place;
-use flash_entry::Told;
+use flash_commands::{Place, a_lookup_asks_at_each_key};
+use flash_entry::{Ask, Told};
 use flash_names::Id;
 use flash_reader::{Asked, Reader};
 use flash_reply::{Command, reply_plain, reply_refusal, reply_step};
@@ -26,10 +27,14 @@ pub struct Session {
     owed: bool,
     last: u64,
     out: BytesMut,
+    // The lookup at the front, once its first step was asked, and the bytes of all its keys.
+    lookup: Option<Lookup>,
+    keys: Vec<u8>,
 }
 
 impl Model for Session {
     ghost use Rattle.flash_session.specs.States as states;
+    ghost use Rattle.flash_session.specs.Lookups.{IsKept};
 
     ghost Value = { states.Session };
 
@@ -41,6 +46,8 @@ impl Model for Session {
       last = s.last;
       out = s.out.items;
     } };
+
+    ghost invariant = { λ s. IsKept s.reader s.step s.lookup s.keys.items };
 }
 
 impl Session {
@@ -55,6 +62,8 @@ impl Session {
             owed: false,
             last: 0,
             out: BytesMut::new(alloc),
+            lookup: None,
+            keys: Vec::new(alloc),
         }
     }
 
@@ -93,6 +102,33 @@ impl Session {
         ensures told { OnOk result (self.new ≡ told_at self.old (front_now self.old) told.now) }
         ensures refused { OnErr result (self.new ≡ self.old) }
     {
+        // The law does nothing: the call brings it into this function's proof.
+        a_lookup_asks_at_each_key();
+        let Some(lookup) = self.lookup else {
+            return self.answer_front(told);
+        };
+        let step = self.step.checked_add(1).ok_or(AllocError)?;
+        // Of the keys that are left the step's is the first one.
+        let command = Command::Text(lookup.rest(&self.keys));
+        reply_step(&mut self.out, &command, 1, told)?;
+        self.owed = false;
+        if is_done(told, &command, 1) {
+            self.step = 0;
+            self.lookup = None;
+            self.reader.take(lookup.bytes, lookup.next);
+        } else {
+            self.step = step;
+            self.lookup = Some(lookup.after_key(&self.keys));
+        }
+        Ok(())
+    }
+
+    // The same where no lookup is kept: the front is read again.
+    fn answer_front(&mut self, told: &Told) -> Result<(), AllocError>
+        ensures told { OnOk result (self.new ≡ told_at self.old (front_now self.old) told.now) }
+        ensures refused { OnErr result (self.new ≡ self.old) }
+    {
+        self.lookup = None;
         let Some(front) = self.reader.front() else {
             return Ok(());
         };
@@ -119,6 +155,8 @@ impl Session {
         ensures needs { IfOk result (λ todo. Needs self.old todo self.new) }
         ensures refused { OnErr result (HasReadOn self.old self.new) }
     {
+        a_read_goes_on();
+        a_read_holds_a_piece();
         if self.owed {
             return Ok(if self.out.is_empty() {
                 Todo::Wait
@@ -126,75 +164,60 @@ impl Session {
                 Todo::Write
             });
         }
-        self.read_on()?;
-        if !self.out.is_empty() {
-            return Ok(Todo::Write);
-        }
-        self.ask_or_rest(alloc)
-    }
-
-    // Reads the fronts that ask no step, as long as there is nothing to send.
-    fn read_on(&mut self) -> Result<(), AllocError>
-        ensures reads { HasReadOn self.old self.new }
-        ensures done { OnOk result (self.new.out ≡ [] → read_at_once self.new (front_now self.new) ≡ None) }
-    {
-        a_read_goes_on();
-        a_read_holds_a_piece();
         'fronts: while self.out.is_empty() {
-            if !self.read_at_once()? {
-                return Ok(());
+            if let Some(todo) = self.go_on(alloc)? {
+                return Ok(todo);
             }
         }
-        Ok(())
+        Ok(Todo::Write)
     }
 
-    // What it needs where it is free, and no front is read at once. Where memory runs out nothing changes.
-    fn ask_or_rest(&mut self, alloc: Global) -> Result<Todo, AllocError>
+    // What it needs where it is free, or `None` where its front asked no step: that is read then, and replied to. Where
+    // memory runs out nothing changes.
+    fn go_on(&mut self, alloc: Global) -> Result<Option<Todo>, AllocError>
         requires free { IsFree self.old }
-        requires read { read_at_once self.old (front_now self.old) ≡ None }
-        ensures needs { IfOk result (λ todo. Needs self.old todo self.new) }
+        ensures needs { IfOk result (λ todo. IfSome todo (λ todo. Needs self.old todo self.new)) }
+        ensures read { IfOk result (λ todo. IsNone todo → read_at_once self.old (front_now self.old) ≡ Some self.new) }
         ensures refused { OnErr result (self.new ≡ self.old) }
     {
-        an_ask_goes_on();
-        let Some(front) = self.reader.front() else {
-            return Ok(rest_at(self.reader.place()));
+        // The law does nothing: the call brings it into this function's proof.
+        a_lookup_asks_at_each_key();
+        let Some(lookup) = self.lookup else {
+            return self.read_front(alloc);
         };
-        let Asked::Asks(command, block) = &front.asked else {
-            // No other front is left.
-            return Err(AllocError);
-        };
-        // Where a command has done its last step, its front is taken.
-        let ask = ask_at(alloc, command, block, self.step as usize)?.ok_or(AllocError)?;
-        let Some(seq) = self.last.checked_add(1) else {
-            return Ok(Todo::Closed(Ending::UsedUp));
-        };
-        self.last = seq;
-        self.owed = true;
-        let id = Id {
-            pass: self.pass,
-            seq,
-        };
-        Ok(Todo::Do(id, ask))
+        let command = Command::Text(lookup.rest(&self.keys));
+        let ask = ask_at(alloc, &command, &[], 0)?.ok_or(AllocError)?;
+        Ok(Some(self.ask(ask)))
     }
 
-    // Reads a front that asks no step, and replies to it; answers whether there was one. Where memory runs out nothing changes.
-    fn read_at_once(&mut self) -> Result<bool, AllocError>
-        ensures read { IfOk result (λ read. read ≡ true → read_at_once self.old (front_now self.old) ≡ Some self.new) }
-        ensures none { IfOk result (λ read. read ≡ false → read_at_once self.old (front_now self.old) ≡ None) }
-        ensures same { IfOk result (λ read. read ≡ false → self.new ≡ self.old) }
-        ensures none_skipped { IfOk result (λ read. read ≡ true → self.old.reads.reader.skip ≡ 0) }
+    // The same where no lookup is kept.
+    fn read_front(&mut self, alloc: Global) -> Result<Option<Todo>, AllocError>
+        requires free { IsFree self.old }
+        ensures needs { IfOk result (λ todo. IfSome todo (λ todo. Needs self.old todo self.new)) }
+        ensures read { IfOk result (λ todo. IsNone todo → read_at_once self.old (front_now self.old) ≡ Some self.new) }
         ensures refused { OnErr result (self.new ≡ self.old) }
     {
+        self.lookup = None;
         let Some(front) = self.reader.front() else {
             self.reader.look();
-            return Ok(false);
+            return Ok(Some(rest_at(self.reader.place())));
         };
         match &front.asked {
             Asked::Nothing => {}
             Asked::Refused(refusal) => reply_refusal(&mut self.out, *refusal)?,
-            Asked::Asks(command, _) => {
+            Asked::Asks(command, block) => {
                 if has_step(command, 0) {
-                    return Ok(false);
+                    // Where a command has done its last step, its front is taken.
+                    let ask = ask_at(alloc, command, block, self.step as usize)?.ok_or(AllocError)?;
+                    if self.step == 0 {
+                        self.lookup = keep_lookup(
+                            &mut self.keys,
+                            command,
+                            front.bytes,
+                            front.next,
+                        )?;
+                    }
+                    return Ok(Some(self.ask(ask)));
                 }
                 reply_plain(&mut self.out, command)?;
             }
@@ -202,7 +225,26 @@ impl Session {
         let (bytes, next) = (front.bytes, front.next);
         self.step = 0;
         self.reader.take(bytes, next);
-        Ok(true)
+        Ok(None)
+    }
+
+    // Asks the step that is next at its front.
+    fn ask(&mut self, ask: Ask) -> Todo
+        requires free { IsFree self.old }
+        requires next { ask_at self.old.step (front_now self.old) ≡ Some ask }
+        ensures { Needs self.old result self.new }
+    {
+        an_ask_goes_on();
+        let Some(seq) = self.last.checked_add(1) else {
+            return Todo::Closed(Ending::UsedUp);
+        };
+        self.last = seq;
+        self.owed = true;
+        let id = Id {
+            pass: self.pass,
+            seq,
+        };
+        Todo::Do(id, ask)
     }
 }
 

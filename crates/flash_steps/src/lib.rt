@@ -24,6 +24,3 @@ pub use refused::{
     a_refused_touch_changes_nothing, refused_arithmetic_changes_nothing,
 };
 pub use touched::a_touch_changes_the_deadline_alone;
-
-#[cfg(test)]
-mod tests;

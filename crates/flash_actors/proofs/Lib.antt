@@ -1,0 +1,15 @@
+mod Evicting
+mod Locked
+mod Turned
+mod Differing
+mod Keeping
+mod Others
+mod Told
+mod OnTime
+mod Stepped
+mod Saying
+mod Streams
+mod Serving
+mod Ending
+mod Turning
+mod First
