@@ -19,11 +19,11 @@ use Rattle.flash_buffers.specs.Law.{AllAllowed, after_all, Leaves, AllLeave}
 use Rattle.flash_buffers.proofs.ReadLemmas.{label_is, same_self, covering, covers_is, first_byte, read_only, in_records}
 
 -- the buffer has this byte of a label
-abbrev byte_at : Label → ℕ → Place
+abbrev pub byte_at : Label → ℕ → Place
 byte_at label at = record { label = label; offset = at; length = 1 }
 
 -- a byte of a label is in one buffer at most
-abbrev Apart : ℕ → List (Option Block) → Type 0
+abbrev pub Apart : ℕ → List (Option Block) → Type 0
 Apart size blocks = (n m : ℕ) (label : Label) (at : ℕ) → covers size (byte_at label at) (get_or blocks n None) ≡ true → covers size (byte_at label at) (get_or blocks m None) ≡ true → n ≡ m
 
 -- the buffers have no byte that they hadn't
@@ -119,7 +119,7 @@ dropped_covers size place label block has = was (has_label label block) block ha
   was true block has = absurd (cc has)
   was false block has = has
 
-step_apart : (t : BufferTable) (call : Call) → Allowed t call → Apart t.size t.blocks → Apart (table_after call t).size (table_after call t).blocks
+pub step_apart : (t : BufferTable) (call : Call) → Allowed t call → Apart t.size t.blocks → Apart (table_after call t).size (table_after call t).blocks
 step_apart t (takes label offset) may apart = taken (first_free t) where
   taken : (number : Option ℕ) → Apart (with_block t label offset number).size (with_block t label offset number).blocks
   taken None = apart
@@ -137,13 +137,13 @@ step_apart t (drops label) may apart =
     fewer_apart t.size t.blocks _ (λ n other at has. dropped_covers t.size (byte_at other at) label (get_or t.blocks n None) (subst (λ (b : Option Block). covers t.size (byte_at other at) b ≡ true) (get_or-map (block_without label) t.blocks n None) has)) apart
 
 -- the block has these bytes at the place, within its records
-record HasAt (size : ℕ) (place : Place) (bytes : List ℕ) (block : Block) : Type 0 where
-  covers_it : covers size place (Some block) ≡ true
-  within : place.offset + place.length ≤ block.offset + length block.records
-  bytes_are : take place.length (drop (place.offset - block.offset) block.records) ≡ bytes
+pub record HasAt (size : ℕ) (place : Place) (bytes : List ℕ) (block : Block) : Type 0 where
+  pub covers_it : covers size place (Some block) ≡ true
+  pub within : place.offset + place.length ≤ block.offset + length block.records
+  pub bytes_are : take place.length (drop (place.offset - block.offset) block.records) ≡ bytes
 
 -- the buffer has such a block
-abbrev Holds : ℕ → Place → List ℕ → ℕ → List (Option Block) → Type 0
+abbrev pub Holds : ℕ → Place → List ℕ → ℕ → List (Option Block) → Type 0
 Holds size place bytes n blocks = (block : Block) × (get_or blocks n None ≡ Some block) × HasAt size place bytes block
 
 -- another buffer changes
@@ -164,13 +164,13 @@ more_has size place bytes more block has = record {
   bytes_are = more_bytes place more block (covering size place block has.covers_it).low has.within ∙ has.bytes_are;
 }
 
-record_has : (size : ℕ) (place : Place) (bytes : List ℕ) (p : Parts) (block : Block) → HasAt size place bytes block → HasAt size place bytes (with_record size p block)
+pub record_has : (size : ℕ) (place : Place) (bytes : List ℕ) (p : Parts) (block : Block) → HasAt size place bytes block → HasAt size place bytes (with_record size p block)
 record_has size place bytes p block has = either (fits_in size (record_length p) block) where
   either : (fits : Bool) → HasAt size place bytes (cond fits (record block { records = block.records ++ record_bytes p }) block)
   either true = more_has size place bytes (record_bytes p) block has
   either false = has
 
-step_holds : (t : BufferTable) (place : Place) (bytes : List ℕ) (n : ℕ) (call : Call) → Allowed t call → Leaves t place call → Holds t.size place bytes n t.blocks → Holds (table_after call t).size place bytes n (table_after call t).blocks
+pub step_holds : (t : BufferTable) (place : Place) (bytes : List ℕ) (n : ℕ) (call : Call) → Allowed t call → Leaves t place call → Holds t.size place bytes n t.blocks → Holds (table_after call t).size place bytes n (table_after call t).blocks
 step_holds t place bytes n (takes label offset) may leaves holds = taken (first_free t) refl where
   taken : (number : Option ℕ) → first_free t ≡ number → Holds (with_block t label offset number).size place bytes n (with_block t label offset number).blocks
   taken None is = holds
@@ -207,7 +207,7 @@ step_holds t place bytes n (drops label) may leaves holds =
     (holds.0, get_or-map (block_without label) t.blocks n None ∙ ap (block_without label) holds.1 ∙ stays, holds.2)
 
 -- what a buffer holds is read
-held_read : (t : BufferTable) (place : Place) (bytes : List ℕ) (n : ℕ) → 0 < place.length → Apart t.size t.blocks → Holds t.size place bytes n t.blocks → read_of t place ≡ Some bytes
+pub held_read : (t : BufferTable) (place : Place) (bytes : List ℕ) (n : ℕ) → 0 < place.length → Apart t.size t.blocks → Holds t.size place bytes n t.blocks → read_of t place ≡ Some bytes
 held_read t place bytes n some apart holds =
     let block : Block = holds.0 in
     let covers_it : covers t.size place (Some block) ≡ true = holds.2.covers_it in
@@ -254,7 +254,7 @@ none_at zero k = refl
 none_at (suc n) zero = refl
 none_at (suc n) (suc k) = none_at n k
 
-first_apart : (buffers size : ℕ) → Apart size (first_table buffers size).blocks
+pub first_apart : (buffers size : ℕ) → Apart size (first_table buffers size).blocks
 first_apart buffers size = λ n m label at one other. absurd (let none : covers size (byte_at label at) None ≡ true = subst (λ (b : Option Block). covers size (byte_at label at) b ≡ true) (none_at buffers n) one in cc)
 
 -- the block of a buffer that a record was appended to has it at its place
@@ -271,10 +271,10 @@ new_has size p block fits =
     }
 
 -- the parts of a record at a place
-abbrev parts_at : List ℕ → ℕ → ℕ → List ℕ → Place → Parts
+abbrev pub parts_at : List ℕ → ℕ → ℕ → List ℕ → Place → Parts
 parts_at key flags cas value place = record { key = key; flags = flags; cas = cas; version = place.label.version; value = value }
 
-appended_has : (size : ℕ) (key : List ℕ) (flags cas : ℕ) (value : List ℕ) (place : Place) (block : Option Block) → place_in size key flags cas value block ≡ Some place → (new : Block) × (block_with_record size key flags cas value block ≡ Some new) × HasAt size place (record_bytes (parts_at key flags cas value place)) new × (0 < place.length)
+pub appended_has : (size : ℕ) (key : List ℕ) (flags cas : ℕ) (value : List ℕ) (place : Place) (block : Option Block) → place_in size key flags cas value block ≡ Some place → (new : Block) × (block_with_record size key flags cas value block ≡ Some new) × HasAt size place (record_bytes (parts_at key flags cas value place)) new × (0 < place.length)
 appended_has size key flags cas value place None is = absurd (cc is)
 appended_has size key flags cas value place (Some block) is = either (fits_in size (record_length p) block) refl is where
   p : Parts

@@ -10,7 +10,7 @@ use Rattle.std.specs.List.{AllByRecursion, IsDistinct, list_any}
 use Rattle.flash_names.specs.declared.place.Label.{Label}
 use Rattle.flash_buffers.specs.Block.{Block, Slot, blocks_in, block_with_record}
 use Rattle.flash_buffers.proofs.Pigeonhole.{distinct_few}
-use Rattle.flash_buffers.specs.BufferTable.{BufferTable, block_of, first_free}
+use Rattle.flash_buffers.specs.BufferTable.{BufferTable, block_of, first_free, IsOpen}
 use Rattle.flash_buffers.specs.Calls.{with_first_free, with_block, table_after, takes}
 use Rattle.flash_buffers.specs.Sound.{IsSound, IsTaken, free_slot}
 
@@ -153,3 +153,22 @@ without_first (n ∷ rest) = refl
 pub first_inside : (slots : List Slot) (queue : List ℕ) (n : ℕ) → AllByRecursion (IsTaken slots) queue → 0 < length queue → n ≡ get_or queue 0 n → n < length slots
 first_inside slots [] n taken some first = absurd (omega (arith, some))
 first_inside slots (m ∷ rest) n taken some first = omega (arith, first, taken.0.0)
+
+-- a free buffer isn't in the queue
+not_queued : (slots : List Slot) (queue : List ℕ) (n : ℕ) → AllByRecursion (IsTaken slots) queue → (get_or slots n free_slot).block ≡ None → list_any (λ m. nat_eq m n) queue ≡ false
+not_queued slots [] n taken free = refl
+not_queued slots (m ∷ rest) n taken free = rw (differs, not_queued slots rest n taken.1 free) refl where
+  differs : nat_eq m n ≡ false
+  differs =
+      elim (eqb_tells m n) [
+        | inl same ↦ absurd (let none : IsSome {T = Block} None = subst (λ (b : Option Block). IsSome b) free (subst (λ (k : ℕ). IsSome (get_or slots k free_slot).block) same.1 taken.0.1) in cc none)
+        | inr other ↦ other.0
+      ]
+
+-- a buffer that was free and is taken is open
+pub taken_open : (size : ℕ) (slots : List Slot) (queue : List ℕ) (room n : ℕ) (new : Slot) (in_flight : Bool) → IsSound size slots queue room → n < length slots → (get_or slots n free_slot).block ≡ None → IsSome new.block → IsOpen (record { size = size; blocks = blocks_in (set slots n new); queue = queue; in_flight = in_flight }) n
+taken_open size slots queue room n new in_flight sound inside free some = record {
+  inside = omega (arith, inside, length-map (set slots n new) (λ slot. slot.block), length-set slots n new);
+  taken = subst (λ (b : Option Block). IsSome b) (sym (block_at (set slots n new) n ∙ ap (λ (s : Slot). s.block) (get_or-set_at slots n n new free_slot refl inside))) some;
+  unsealed = not_queued slots queue n sound.taken free;
+}

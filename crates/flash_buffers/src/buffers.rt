@@ -83,6 +83,7 @@ impl Buffers {
     pub fn take(&mut self, label: Label, offset: u32) -> Option<BufferId>
         requires { CanTake self.old label offset }
         ensures exact { result ≡ option_map (λ number. record { number = number }) (first_free self.old) }
+        ensures unsealed { IfSome result (λ id. IsOpen self.new id.number) }
         ensures after { self.new ≡ table_after (takes label offset) self.old }
     {
         let number = first_free(&self.rows)?;

@@ -1,0 +1,9 @@
+use Rattle.std.proofs.Common.{false}
+use Rattle.flash_blocks.specs.BlockTable.{BlockTable}
+use Rattle.flash_blocks.proofs.KeptLemmas.{flight_kept}
+use Rattle.flash_blocks.proofs.blocks.Blocks.unwritten.Goals as goal
+
+pub invariant_of-self : goal.invariant_of-self
+invariant_of-self c =
+    let t : BlockTable = record { pages = c.self.inside.pages; buffers = c.self.inside.buffers; default = c.self.inside.opened.default; compact = c.self.inside.opened.compact } in
+    flight_kept t _ _ c.unwritten.new.self false c.unwritten.ensures c.self.invariant

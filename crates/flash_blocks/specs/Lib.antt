@@ -1,0 +1,5 @@
+pub mod BlockTable
+pub mod Calls
+pub mod Held
+pub mod Rooms
+pub mod Sound

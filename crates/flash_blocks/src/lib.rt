@@ -1,0 +1,27 @@
+//! Where moved values are: the pages of the flash file, the write buffers, and for each bucket the page and the block
+//! that its records are appended to.
+//!
+//! `put` appends a record to the bucket's open block. Where it doesn't fit, the block is sealed and the next one of the
+//! page, or the first one of a page that is opened, takes its place; `room` says which. `seal` ends the open block early.
+//! `write_begin` gives the oldest sealed block to be written, `read` the bytes of a place that a buffer covers.
+//! `take_live` counts a record as live no longer; `pin`, `unpin`, `end`, `free` and the calls that name a page are those
+//! of the pages.
+//!
+//! It is proved what each call answers and the whole table after it. What the calls of pages and buffers ask for follows
+//! from what the table keeps: an open block's buffer is open, the next block is in no buffer, and a page's live records
+//! have no more bytes than were put.
+#![tactic(auto)]
+
+mod answers;
+mod blocks;
+mod held;
+mod open_page;
+mod open_pages;
+
+pub use answers::{Full, Put, Room};
+pub use blocks::Blocks;
+pub use held::keeps_held;
+pub use open_page::OpenPage;
+
+#[cfg(test)]
+mod tests;
