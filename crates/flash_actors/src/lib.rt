@@ -5,6 +5,7 @@
 //! done then, and `Timing.antt` when its steps are done. `Serving.antt` says what a session under way has done so far.
 #![tactic(auto)]
 
+mod batch;
 mod input;
 mod keeper;
 mod laws;
@@ -20,6 +21,3 @@ pub use keeper::{KeeperStep, keeper_turn};
 pub use session::serve_session;
 pub use session_end::SessionEnd;
 pub use turns::{first_turn, step};
-
-#[cfg(test)]
-mod tests;

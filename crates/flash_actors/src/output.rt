@@ -29,6 +29,11 @@ impl Output {
         }
     }
 
+    // Whether `take` writes where it is given a piece of this length.
+    pub fn is_full_with(&self, length: usize) -> bool {
+        length >= WRITE_SIZE || self.gathered.len() >= WRITE_SIZE - length
+    }
+
     // Takes one piece more. Writes all where they are many; a piece that is large isn't gathered.
     pub fn take<K: Sink>(&mut self, sink: &mut K, piece: &[u8]) -> Result<(), SessionEnd>
         ensures taken { OnOk result

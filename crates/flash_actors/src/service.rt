@@ -11,6 +11,7 @@ ghost use Rattle.flash_actors.specs.Headline.{HasCause};
 ghost use Rattle.flash_actors.specs.Passing.{IsReady, geometry_known, journal_seen};
 ghost use Rattle.flash_actors.specs.Serving.{rest_of, GoesOn, EndsSo, KeepsOn, Stops, IsUnwritten};
 
+use crate::batch::Batch;
 use crate::input::Input;
 use crate::laws::sessions_keep_their_laws;
 use crate::output::Output;
@@ -32,13 +33,15 @@ pub struct Service {
 }
 
 impl Service {
-    // Does what the session needs next: takes a piece of its replies, does a step, or gives it more bytes.
+    // Does what the session needs next: takes a piece of its replies, does a step, or gives it more bytes. No read and no
+    // write is made in a batch.
     pub fn turn<J: Journal, S: Source, K: Sink, C: Clock, R: Wait>(
         &mut self,
         rt: &R,
         alloc: Global,
         store: &Turn<Core<J>>,
         pass: &mut Pass<Core<J>>,
+        batch: &mut Batch,
         source: &mut S,
         sink: &mut K,
         clock: &mut C,
@@ -69,10 +72,23 @@ impl Service {
         sessions_keep_their_laws();
         match self.session.next(alloc) {
             Ok(todo) => match todo {
-                Todo::Write => self.collect(sink),
-                Todo::Do(id, ask) => self.take_step(rt, alloc, store, pass, clock, id.seq, &ask),
-                Todo::Input => self.take_input(source, sink),
-                Todo::Closed(ending) => Err(self.close(sink, ending)),
+                Todo::Write => {
+                    let writes = self.output.is_full_with(self.session.out().len());
+                    batch.end_where(store, writes);
+                    self.collect(sink)
+                }
+                Todo::Do(id, ask) => {
+                    batch.step(rt, store);
+                    self.take_step(rt, alloc, store, pass, clock, id.seq, &ask)
+                }
+                Todo::Input => {
+                    batch.end(store);
+                    self.take_input(source, sink)
+                }
+                Todo::Closed(ending) => {
+                    batch.end(store);
+                    Err(self.close(sink, ending))
+                }
                 Todo::Wait => unreachable!(),
             },
             Err(AllocError) => Err(SessionEnd::NoMemory),

@@ -7,6 +7,7 @@ ghost use Rattle.flash_turn.specs.Passes.{IsPassOf, number_of, left_own};
 ghost use Rattle.flash_actors.specs.Headline.{IsHeadline, HasCause};
 ghost use Rattle.flash_actors.specs.Passing.{geometry_known, journal_seen};
 
+use crate::batch::Batch;
 use crate::input::Input;
 use crate::laws::sessions_keep_their_laws;
 use crate::output::Output;
@@ -55,10 +56,14 @@ pub fn serve_session<J: Journal, S: Source, K: Sink, C: Clock, R: Wait>(
         input,
         output: Output::new(alloc),
     };
+    let mut batch = Batch::new();
     'turns: for _ in rt.forever() {
-        match service.turn(rt, alloc, store, pass, source, sink, clock) {
+        match service.turn(rt, alloc, store, pass, &mut batch, source, sink, clock) {
             Ok(()) => {}
-            Err(end) => return end,
+            Err(end) => {
+                batch.end(store);
+                return end;
+            }
         }
     }
     unreachable!()

@@ -20,6 +20,3 @@ pub use laws::{
     each_ask_notes_itself, each_ask_records_itself, no_items_are_here, numbers_stay_new,
     outcomes_are_in_order, outcomes_stay,
 };
-
-#[cfg(test)]
-mod tests;

@@ -22,6 +22,3 @@ pub use answers::{Full, Put, Room};
 pub use blocks::Blocks;
 pub use held::keeps_held;
 pub use open_page::OpenPage;
-
-#[cfg(test)]
-mod tests;

@@ -16,6 +16,3 @@ mod law;
 
 pub use buffers::{BufferId, Buffers, WriteJob};
 pub use law::keeps_the_law;
-
-#[cfg(test)]
-mod tests;

@@ -35,6 +35,3 @@ pub use laws::{
     each_sum_goes_on, each_tally_goes_on, each_touch_goes_on,
 };
 pub use state::{Core, OpenError, OpenWhy};
-
-#[cfg(test)]
-mod tests;

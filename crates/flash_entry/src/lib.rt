@@ -46,8 +46,3 @@ pub use laws::{
 pub use note::{CloseNote, DoneNote, Note};
 pub use print::print_entry;
 pub use read::read_entry;
-
-#[cfg(test)]
-mod read_tests;
-#[cfg(test)]
-mod tests;

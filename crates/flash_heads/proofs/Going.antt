@@ -6,13 +6,13 @@ use Rattle.flash_names.specs.declared.place.Label.{Label}
 use Rattle.flash_names.specs.declared.geometry.Geometry.{Geometry}
 use Rattle.flash_entry.specs.declared.entry.Entry.{Entry}
 use Rattle.flash_entry.specs.declared.entry.Entry.TheVariants as entries
-use Rattle.flash_machine.specs.Item.{Item}
+use Rattle.flash_machine.specs.Item.{Item, moved_head}
 use Rattle.flash_machine.specs.Cache.{Cache}
 use Rattle.flash_machine.specs.Steps.{labelled, next, cache_from, cache_of}
 use Rattle.flash_machine.specs.Legal.{Meets, LegalFrom}
 use Rattle.flash_machine.proofs.Runs.{cache_of-append, Legal-append}
 use Rattle.flash_heads.specs.Heads.{heads}
-use Rattle.flash_heads.specs.Moves.{moved_head, with_head}
+use Rattle.flash_heads.specs.Moves.{with_head}
 use Rattle.flash_heads.specs.EntryLaws.{BringsNoValue, MovesNoValue}
 use Rattle.flash_heads.specs.RuleLaws.{EachRunIsLegalAlike}
 use Rattle.flash_heads.specs.KnownRun.{IsKnownRun, AKnownRunGoesOn, AKnownRunGoesOnByMoves, AKnownRunGoesOnByAMove, TheFirstRunIsKnown, AKnownRunGoesOnByARecache}

@@ -2,11 +2,11 @@
 use Rattle.std.proofs.Common.{◌≡◌, ℕ, List, None, Some, sym, ◌∙◌, ap}
 use Rattle.std.specs.Prelude.{replicate}
 use Rattle.flash_names.specs.declared.place.Label.{Label}
-use Rattle.flash_machine.specs.Item.{Item}
+use Rattle.flash_machine.specs.Item.{Item, moved_head}
 use Rattle.flash_machine.specs.Cache.{Cache, Items}
 use Rattle.flash_machine.specs.Steps.{labelled}
 use Rattle.flash_heads.specs.Heads.{hidden, heads}
-use Rattle.flash_heads.specs.Moves.{moved_head, with_head, EachMoveIsHidden, EachMoveIsThatOfTheHeads, EachRecachedItemIsKnown}
+use Rattle.flash_heads.specs.Moves.{with_head, EachMoveIsHidden, EachMoveIsThatOfTheHeads, EachRecachedItemIsKnown}
 use Rattle.flash_heads.proofs.Hiding.{value_length, put_hidden, items_once}
 
 put_in : (c : Cache) (key : List ℕ) (item : Item) → heads (with_head c key item) ≡ with_head (heads c) key (hidden item)

@@ -6,13 +6,13 @@ use Rattle.flash_names.specs.declared.place.Label.{Label}
 use Rattle.flash_names.specs.declared.geometry.Geometry.{Geometry}
 use Rattle.flash_entry.specs.declared.entry.Entry.{Entry}
 use Rattle.flash_entry.specs.declared.entry.Entry.TheVariants as entries
-use Rattle.flash_machine.specs.Item.{Item}
+use Rattle.flash_machine.specs.Item.{Item, moved_head}
 use Rattle.flash_machine.specs.Cache.{Cache, first_cache}
 use Rattle.flash_machine.specs.Steps.{cache_from, cache_of}
 use Rattle.flash_machine.specs.Legal.{Meets, LegalFrom, Legal}
 use Rattle.flash_heads.specs.Heads.{heads}
 use Rattle.flash_heads.specs.EntryLaws.{BringsNoValue, MovesNoValue}
-use Rattle.flash_heads.specs.Moves.{moved_head, with_head}
+use Rattle.flash_heads.specs.Moves.{with_head}
 
 -- the journal is a run of the one-thread cache, and this is the heads of the cache that it makes
 pub record IsKnownRun (g : Geometry) (c : Cache) (h : List Entry) : Type 0 where

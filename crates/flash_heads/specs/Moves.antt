@@ -1,16 +1,12 @@
 -- What the heads of a cache are after an item's value moved to a page, or back into memory.
-use Rattle.std.specs.Prelude.{◌≡◌, ℕ, List, length, replicate, Option, None, Some}
+use Rattle.std.specs.Prelude.{◌≡◌, ℕ, List, Option, None, Some}
 use Rattle.std.specs.Option.{option_map}
 use Rattle.std.specs.FinMap as finite
 use Rattle.flash_names.specs.declared.place.Label.{Label}
-use Rattle.flash_machine.specs.Item.{Item}
+use Rattle.flash_machine.specs.Item.{Item, moved_head}
 use Rattle.flash_machine.specs.Cache.{Cache}
 use Rattle.flash_machine.specs.Steps.{labelled}
 use Rattle.flash_heads.specs.Heads.{hidden, heads}
-
--- the item with this label, and as many zeros as its value has bytes
-abbrev pub moved_head : Label → Item → Item
-moved_head label item = record item { value = replicate (length item.value) 0; label = Some label }
 
 -- the heads with this item under the key
 abbrev pub with_head : Cache → List ℕ → Item → Cache

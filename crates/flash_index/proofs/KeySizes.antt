@@ -10,11 +10,11 @@ use Rattle.flash_lru.specs.Juggle.{goes_to}
 use Rattle.flash_machine.specs.Item.{Item}
 use Rattle.flash_machine.specs.Cache.{Items}
 use Rattle.flash_machine.specs.Load.{item_load}
-use Rattle.flash_index.specs.KeyLists.{KeyCard, KeyLists, is_of, without, removed, moved, with_active, touched}
+use Rattle.flash_index.specs.KeyLists.{KeyCard, KeyLists, is_of, without, removed, moved, with_active, touched, with_size, resized}
 use Rattle.flash_index.specs.KeyEnds.{last_card}
 use Rattle.flash_index.specs.KeyJuggle.{KeyMove, exceeds, from_full, from_cold, next_move}
 use Rattle.flash_index.specs.Listed.{IsSized}
-use Rattle.flash_index.proofs.Lookups.{true_false, none_some, key_itself, cases_key, put_here, put_else, cut_else}
+use Rattle.flash_index.proofs.Lookups.{true_false, none_some, same_key, key_itself, cases_key, put_here, put_else, cut_else}
 use Rattle.flash_index.proofs.Passing.{last_passes}
 use Rattle.flash_index.proofs.KeyCards.{count_cons}
 
@@ -93,6 +93,26 @@ touched_sized items key lists sized = record {
   hot = sized_active items key lists.hot sized.hot;
   warm = sized_active items key lists.warm sized.warm;
   cold = sized_active items key lists.cold sized.cold;
+}
+
+-- the key's card has the size of its new item
+sized_anew : (items : Items) (key : List ℕ) (now : Item) (cards : List KeyCard) → AreSized items cards → AreSized (insert items key now) (with_size key (item_load key now) cards)
+sized_anew items key now [] sized = tt
+sized_anew items key now (card ∷ cards) sized =
+    let new = insert items key now in
+    let first : IsSized new (cond (is_of key card) (record card { size = item_load key now }) card) = elim (cases_Bool (is_of key card)) [
+      | inl e ↦ subst (λ b. IsSized new (cond b (record card { size = item_load key now }) card)) (sym e)
+          (subst (λ k. size_at new k ≡ Some (item_load key now)) (same_key key card.key e) (size_put items key now))
+      | inr e ↦ subst (λ b. IsSized new (cond b (record card { size = item_load key now }) card)) (sym e)
+          (size_put_else items key now card.key (apart_of key card e) ∙ sized.0)
+    ] in
+    (first, sized_anew items key now cards sized.1)
+
+pub resized_sized : (items : Items) (key : List ℕ) (now : Item) (lists : KeyLists) → AllSized items lists → AllSized (insert items key now) (resized key (item_load key now) lists)
+resized_sized items key now lists sized = record {
+  hot = sized_anew items key now lists.hot sized.hot;
+  warm = sized_anew items key now lists.warm sized.warm;
+  cold = sized_anew items key now lists.cold sized.cold;
 }
 
 pub removed_sized : (old new : Items) (key : List ℕ) (lists : KeyLists) → SameElse old new key → AllSized old lists → AllSized new (removed key lists)

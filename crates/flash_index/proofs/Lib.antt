@@ -4,10 +4,18 @@ pub mod KeyCards
 pub mod KeySizes
 pub mod LoadLemmas
 pub mod ListLaws
+mod SeenMaps
 mod SeenItems
+mod SeenPlaces
 mod SeenCards
 mod SeenEnds
 mod SeenJuggle
+mod LastPassing
+mod Walks
+mod MarkWalks
+mod Marked
+mod MarkCalls
+mod SeenMoves
 mod InStep
 mod Lengths
 mod Closings

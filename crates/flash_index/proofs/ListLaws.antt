@@ -7,13 +7,13 @@ use Rattle.flash_lru.specs.declared.segment.Segment.TheVariants.{Hot}
 use Rattle.flash_machine.specs.Item.{Item}
 use Rattle.flash_machine.specs.Cache.{Items}
 use Rattle.flash_machine.specs.Load.{item_load, load_of}
-use Rattle.flash_index.specs.KeyLists.{KeyCard, KeyLists, cards_of, empty_lists, moved, removed, touched}
+use Rattle.flash_index.specs.KeyLists.{KeyCard, KeyLists, cards_of, empty_lists, moved, removed, touched, resized}
 use Rattle.flash_index.specs.KeyEnds.{last_card, last_key, last_out}
 use Rattle.flash_index.specs.KeyJuggle.{KeyMove, bytes_of, next_move, with_move}
 use Rattle.flash_index.specs.Listed.{IsListed}
 use Rattle.flash_index.proofs.Lookups.{order, none_some, cases_key, put_here, put_else, cut_here, cut_else}
-use Rattle.flash_index.proofs.KeyCards.{cards_removed_same, cards_removed, cards_touched, cards_moved_else, cards_moved_here}
-use Rattle.flash_index.proofs.KeySizes.{AreSized, AllSized, size_put, size_put_else, size_cut_else, size_kept, sized_same, touched_sized, removed_sized, moved_sized, last_sized, move_sized}
+use Rattle.flash_index.proofs.KeyCards.{cards_removed_same, cards_removed, cards_touched, cards_resized, cards_moved_else, cards_moved_here}
+use Rattle.flash_index.proofs.KeySizes.{AreSized, AllSized, size_put, size_put_else, size_cut_else, size_kept, sized_same, touched_sized, resized_sized, removed_sized, moved_sized, last_sized, move_sized}
 use Rattle.flash_index.proofs.LoadLemmas.{one_if, load_listed}
 
 -- whose cards the lists have
@@ -70,6 +70,13 @@ module _ (items : Items) (lists : KeyLists) (listed : IsListed items lists) wher
         warm = sized_same items (insert items key now) alike lists.warm listed.warm;
         cold = sized_same items (insert items key now) alike lists.cold listed.cold;
       }
+
+  pub resize_listed : (key : List ℕ) (now : Item) → IsSome (get items key) → IsListed (insert items key now) (resized key (item_load key now) lists)
+  resize_listed key now there =
+      let size = item_load key now in
+      listed_by _ _
+      (put_once key now (resized key size lists) (cards_resized key key size lists ∙ listed.one key ∙ one_some (get items key) there) (λ other apart. cards_resized key other size lists))
+      (resized_sized items key now lists all)
 
   pub use_listed : (key : List ℕ) → IsListed items (touched key lists)
   use_listed key = listed_by _ _ (λ other. cards_touched key other lists ∙ listed.one other) (touched_sized items key lists all)

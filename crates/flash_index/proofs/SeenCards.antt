@@ -16,11 +16,11 @@ use Rattle.flash_items.specs.declared.item.Item.{Item}
 use Rattle.flash_items.specs.Item.{item_size}
 use Rattle.flash_items.specs.ItemsState.{ItemMap, ItemsState, item_at, AreSized}
 use Rattle.flash_items.specs.Law.{IsInStep}
-use Rattle.flash_index.specs.KeyLists.{KeyCard, is_of, idle, cards_of, without, removed, moved, with_active, touched}
+use Rattle.flash_index.specs.KeyLists.{KeyCard, is_of, idle, cards_of, without, removed, moved, touched, resized}
 use Rattle.flash_index.specs.Seen.{key_or, card_seen, lists_seen}
 use Rattle.flash_index.proofs.Lookups.{none_some, key_itself, other_key}
 use Rattle.flash_index.proofs.Passing.{all_by}
-use Rattle.flash_index.proofs.KeyCards.{count_cons}
+use Rattle.flash_index.proofs.KeyCards.{changed, count_cons}
 
 pub one_value : {X : Type 0} (o : Option X) (x y : X) → o ≡ Some x → o ≡ Some y → x ≡ y
 one_value {X} o x y ex ey = (let e : Some x ≡ Some y = sym ex ∙ ey in cc)
@@ -146,23 +146,32 @@ module _ (s : ItemsState) (new : ItemMap) (id : ItemId) (key : List ℕ) (else :
   moved_seen Cold size this all = let rest = removed_seen all in λ i. record { hot = (rest i).hot; warm = (rest i).warm; cold = idle (this i) size ∷ (rest i).cold }
 
 module _ (s : ItemsState) (id : ItemId) (key : List ℕ) where
-  active_step : (card : Card) (b : Bool) → card_seen s.items (cond b (record card { active = true }) card) ≡ cond b (record (card_seen s.items card) { active = true }) (card_seen s.items card)
-  active_step card true = refl
-  active_step card false = refl
+  change_step : (card : Card) (b : Bool) (f : Card → Card) (g : KeyCard → KeyCard) → card_seen s.items (f card) ≡ g (card_seen s.items card) → card_seen s.items (cond b (f card) card) ≡ cond b (g (card_seen s.items card)) (card_seen s.items card)
+  change_step card true f g same = same
+  change_step card false f g same = refl
 
-  active_seen : (cards : List Card) → AllByRecursion (IsTested s id key) cards → map (card_seen s.items) (lru_moves.with_change id (λ card. record card { active = true }) cards) ≡ with_active key (map (card_seen s.items) cards)
-  active_seen [] all = refl
-  active_seen (card ∷ cards) all =
-      let first : card_seen s.items (cond (lru_card.is_of id card) (record card { active = true }) card) ≡ cond (is_of key (card_seen s.items card)) (record (card_seen s.items card) { active = true }) (card_seen s.items card) =
-      active_step card (lru_card.is_of id card) ∙ ap (λ b. cond b (record (card_seen s.items card) { active = true }) (card_seen s.items card)) all.0 in
-      let rest = active_seen cards all.1 in λ i. first i ∷ rest i
+  -- the id's card is changed where it is
+  change_seen : (f : Card → Card) (g : KeyCard → KeyCard) → ((card : Card) → card_seen s.items (f card) ≡ g (card_seen s.items card)) → (cards : List Card) → AllByRecursion (IsTested s id key) cards
+      → map (card_seen s.items) (lru_moves.with_change id f cards) ≡ map (λ c. cond (is_of key c) (g c) c) (map (card_seen s.items) cards)
+  change_seen f g same [] all = refl
+  change_seen f g same (card ∷ cards) all =
+      let first : card_seen s.items (cond (lru_card.is_of id card) (f card) card) ≡ cond (is_of key (card_seen s.items card)) (g (card_seen s.items card)) (card_seen s.items card) =
+      change_step card (lru_card.is_of id card) f g (same card) ∙ ap (λ b. cond b (g (card_seen s.items card)) (card_seen s.items card)) all.0 in
+      let rest = change_seen f g same cards all.1 in λ i. first i ∷ rest i
+
+  changed_seen : (f : Card → Card) (g : KeyCard → KeyCard) → ((card : Card) → card_seen s.items (f card) ≡ g (card_seen s.items card)) → AllTested s id key
+      → lists_seen s.items (lru_moves.changed id f s.lists) ≡ changed key g (lists_seen s.items s.lists)
+  changed_seen f g same all =
+      let hot = change_seen f g same s.lists.hot all.hot in
+      let warm = change_seen f g same s.lists.warm all.warm in
+      let cold = change_seen f g same s.lists.cold all.cold in
+      λ i. record { hot = hot i; warm = warm i; cold = cold i }
 
   pub touched_seen : AllTested s id key → lists_seen s.items (lru_moves.touched id s.lists) ≡ touched key (lists_seen s.items s.lists)
-  touched_seen all =
-      let hot = active_seen s.lists.hot all.hot in
-      let warm = active_seen s.lists.warm all.warm in
-      let cold = active_seen s.lists.cold all.cold in
-      λ i. record { hot = hot i; warm = warm i; cold = cold i }
+  touched_seen all = changed_seen (λ card. record card { active = true }) (λ card. record card { active = true }) (λ _. refl) all
+
+  pub resized_seen : (size : ℕ) → AllTested s id key → lists_seen s.items (lru_moves.resized id size s.lists) ≡ resized key size (lists_seen s.items s.lists)
+  resized_seen size all = changed_seen (λ card. record card { size = size }) (λ card. record card { size = size }) (λ _. refl) all
 
   count_seen : (cards : List Card) → AllByRecursion (IsTested s id key) cards → count_by (is_of key) (map (card_seen s.items) cards) ≡ count_by (lru_card.is_of id) cards
   count_seen [] all = refl

@@ -18,7 +18,7 @@ use Rattle.flash_index.specs.Seen.{card_seen, lists_seen, seen}
 use Rattle.flash_index.proofs.SeenCards.{IsCarded, AllCarded, key_seen, IsTested, AllTested}
 
 module _ (s : ItemsState) (all : AllCarded s) where
-  either_named : (a b : Option ItemId) (x y : Option (List ℕ)) → AreNamed (seen s) a x → AreNamed (seen s) b y → AreNamed (seen s) (option_or a b) (option_or x y)
+  pub either_named : (a b : Option ItemId) (x y : Option (List ℕ)) → AreNamed (seen s) a x → AreNamed (seen s) b y → AreNamed (seen s) (option_or a b) (option_or x y)
   either_named None b None y p q = q
   either_named (Some id) b (Some key) y p q = p
   either_named None b (Some key) y p q = absurd p
@@ -28,7 +28,7 @@ module _ (s : ItemsState) (all : AllCarded s) where
   cond_named true a b x y p q = p
   cond_named false a b x y p q = q
 
-  card_named : (card : Card) → IsCarded s card → Names (seen s) card.item (card_seen s.items card).key
+  pub card_named : (card : Card) → IsCarded s card → Names (seen s) card.item (card_seen s.items card).key
   card_named card has = ap (get s.ids) (key_seen s card has) ∙ has.named
 
   last_from_named : (first : Option Card) (cards : List Card) → AreNamed (seen s) (option_map (λ (c : Card). c.item) first) (option_map (λ (c : KeyCard). c.key) (option_map (card_seen s.items) first)) → AllByRecursion (IsCarded s) cards

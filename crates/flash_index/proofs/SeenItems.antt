@@ -1,5 +1,6 @@
 -- The items that are seen, key by key.
-use Rattle.std.proofs.Common.{◌≡◌, ℕ, Bool, true, false, cond, List, [], ◌∷◌, map, Option, Some, None, is_some, option_map, refl, sym, ◌∙◌, ap, subst, inl, inr}
+use Rattle.std.proofs.Common.{◌≡◌, ℕ, Bool, true, false, cond, List, [], ◌∷◌, map, Option, Some, None, is_some, option_map, refl, sym, ◌∙◌, ap}
+use Rattle.std.specs.Option.{option_and_then}
 use Rattle.std.specs.Ordering.{eq_by_cmp}
 use Rattle.std.specs.Cmp.Lexicographic.{nat_list_cmp_total}
 use Rattle.std.specs.FinMap as finite
@@ -14,7 +15,8 @@ use Rattle.flash_machine.specs.Item as machine
 use Rattle.flash_machine.specs.Load.{item_load}
 use Rattle.flash_index.specs.Known.{known_item, known_value, label_of}
 use Rattle.flash_index.specs.Seen.{known_or, items_seen}
-use Rattle.flash_index.proofs.Lookups.{order, cases_key, put_here, put_else, cut_here, cut_else, same_by_keys, id_put_here, id_put_else, id_cut_else}
+use Rattle.flash_index.proofs.Lookups.{order, put_here, put_else, cut_here, cut_else}
+use Rattle.flash_index.proofs.SeenMaps.{OnlyKey, same_by, none_by, put_by, cut_by}
 
 -- the item of a number, as it is known
 abbrev pub known_at : ItemMap → ℕ → machine.Item
@@ -47,55 +49,34 @@ is_some_mapped f (Some x) = refl
 pub is_there : (s : ItemsState) (key : List ℕ) → is_some (finite.get (items_seen s) key) ≡ is_some (finite.get s.ids key)
 is_there s key = ap (λ (o : Option machine.Item). is_some o) (get_seen s key) ∙ is_some_mapped (known_at s.items) (finite.get s.ids key)
 
--- only the ids and the items count
+items_at : (s : ItemsState) (key : List ℕ) → finite.get (items_seen s) key ≡ option_and_then (λ n. Some (known_or (finite.get s.items n))) (finite.get s.ids key)
+items_at s key = get_seen s key ∙ and_then (finite.get s.ids key) where
+  and_then : (o : Option ℕ) → option_map (known_at s.items) o ≡ option_and_then (λ n. Some (known_or (finite.get s.items n))) o
+  and_then None = refl
+  and_then (Some n) = refl
+
+-- an item of an id, as it is known
+abbrev some_known : Option Item → Option machine.Item
+some_known o = Some (known_or o)
+
 pub same_seen : (a b : ItemsState) → a.ids ≡ b.ids → a.items ≡ b.items → items_seen a ≡ items_seen b
-same_seen a b ids items = same_by_keys (items_seen a) (items_seen b) (λ q.
-    get_seen a q ∙ ap (λ (m : ItemMap). option_map (known_at m) (finite.get a.ids q)) items
-    ∙ ap (λ (m : Ids). option_map (known_at b.items) (finite.get m q)) ids ∙ sym (get_seen b q))
+same_seen = same_by items_seen some_known items_at
 
 pub none_seen : (s : ItemsState) → s.ids ≡ finite.empty → items_seen s ≡ finite.empty
-none_seen s none = same_by_keys (items_seen s) finite.empty (λ q.
-    get_seen s q ∙ ap (λ (m : Ids). option_map (known_at s.items) (finite.get m q)) none
-    ∙ ap (option_map (known_at s.items)) (finite.get-empty order q) ∙ sym (finite.get-empty order q))
+none_seen = none_by items_seen some_known items_at
 
 module _ (s t : ItemsState) (id : ItemId) (key : List ℕ) where
-  -- no other key has the id
-  abbrev pub OnlyKey : Type 0
-  OnlyKey = (q : List ℕ) → (q ≡ key → ⊥) → finite.get s.ids q ≡ Some id.key → ⊥
-
-  same_at : (q : List ℕ) → ((n : ℕ) → (n ≡ id.key → ⊥) → finite.get t.items n ≡ finite.get s.items n) → (o : Option ℕ) → (o ≡ Some id.key → ⊥) → option_map (known_at t.items) o ≡ option_map (known_at s.items) o
-  same_at q else None apart = refl
-  same_at q else (Some n) apart = ap (λ o. Some (known_or o)) (else n (λ e. apart (ap (λ k. Some k) e)))
-
-  seen_else : OnlyKey → ((n : ℕ) → (n ≡ id.key → ⊥) → finite.get t.items n ≡ finite.get s.items n) → ((q : List ℕ) → (q ≡ key → ⊥) → finite.get t.ids q ≡ finite.get s.ids q) → (q : List ℕ) → (q ≡ key → ⊥) → finite.get (items_seen t) q ≡ finite.get (items_seen s) q
-  seen_else only else ids q apart =
-      get_seen t q ∙ ap (option_map (known_at t.items)) (ids q apart)
-      ∙ same_at q else (finite.get s.ids q) (only q apart) ∙ sym (get_seen s q)
-
   -- an item is put under its key
-  pub seen_put : (item : Item) → OnlyKey → t.items ≡ finite.insert s.items id.key item → finite.get t.ids key ≡ Some id.key → ((q : List ℕ) → (q ≡ key → ⊥) → finite.get t.ids q ≡ finite.get s.ids q) → items_seen t ≡ finite.insert (items_seen s) key (known_item item)
-  seen_put item only items here ids =
-      let at : (n : ℕ) → finite.get t.items n ≡ finite.get (finite.insert s.items id.key item) n = λ n. ap (λ (m : ItemMap). finite.get m n) items in
-      same_by_keys (items_seen t) (finite.insert (items_seen s) key (known_item item)) (λ q. elim (cases_key q key) [
-        | inl same ↦ subst (λ k. finite.get (items_seen t) k ≡ finite.get (finite.insert (items_seen s) key (known_item item)) k) (sym same)
-            (get_named t id.key key item here (at id.key ∙ id_put_here s.items id.key item) ∙ sym (put_here (items_seen s) key (known_item item)))
-        | inr apart ↦
-            seen_else only (λ n other. at n ∙ id_put_else s.items id.key item n other) ids q apart
-            ∙ sym (put_else (items_seen s) key (known_item item) q apart)
-      ])
+  pub seen_put : (item : Item) → OnlyKey s id key → t.items ≡ finite.insert s.items id.key item → finite.get t.ids key ≡ Some id.key → ((q : List ℕ) → (q ≡ key → ⊥) → finite.get t.ids q ≡ finite.get s.ids q) → items_seen t ≡ finite.insert (items_seen s) key (known_item item)
+  seen_put item only items named ids =
+      put_by items_seen some_known items_at s t id key item (finite.insert (items_seen s) key (known_item item)) only items named ids
+      (put_here (items_seen s) key (known_item item)) (put_else (items_seen s) key (known_item item))
 
   -- the item of a key is taken out
-  pub seen_cut : OnlyKey → t.items ≡ finite.remove s.items id.key → t.ids ≡ finite.remove s.ids key → items_seen t ≡ finite.remove (items_seen s) key
+  pub seen_cut : OnlyKey s id key → t.items ≡ finite.remove s.items id.key → t.ids ≡ finite.remove s.ids key → items_seen t ≡ finite.remove (items_seen s) key
   seen_cut only items ids =
-      let id_at : (q : List ℕ) → finite.get t.ids q ≡ finite.get (finite.remove s.ids key) q = λ q. ap (λ (m : Ids). finite.get m q) ids in
-      same_by_keys (items_seen t) (finite.remove (items_seen s) key) (λ q. elim (cases_key q key) [
-        | inl same ↦ subst (λ k. finite.get (items_seen t) k ≡ finite.get (finite.remove (items_seen s) key) k) (sym same)
-            (get_seen t key ∙ ap (option_map (known_at t.items)) (id_at key ∙ cut_here s.ids key) ∙ sym (cut_here (items_seen s) key))
-        | inr apart ↦
-            seen_else only (λ n other. ap (λ (m : ItemMap). finite.get m n) items ∙ id_cut_else s.items id.key n other)
-            (λ k other. id_at k ∙ cut_else s.ids key k other) q apart
-            ∙ sym (cut_else (items_seen s) key q apart)
-      ])
+      cut_by items_seen some_known items_at s t id key (finite.remove (items_seen s) key) only items ids
+      (cut_here (items_seen s) key) (cut_else (items_seen s) key)
 
 value_known : (key_length : ℕ) (body : Body) → cond (is_none (label_of body)) (length (known_value key_length body)) 0 ≡ bytes_here body
 value_known key_length (Here value) = refl

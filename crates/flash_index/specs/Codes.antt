@@ -3,8 +3,10 @@ use Rattle.std.specs.Prelude.{ℕ, Bool, List, refl}
 use Rattle.std.specs.Coded.{Coded, code_by, coded×, coded_ℕ, coded_bool, coded_list}
 use Rattle.std.specs.FinMap.{code}
 use Rattle.flash_items.specs.ItemsState.{Ids}
+use Rattle.flash_items.specs.Codes.{place_code}
 use Rattle.flash_machine.specs.Cache.{Items}
 use Rattle.flash_machine.specs.Codes.{items_code}
+use Rattle.flash_index.specs.Places.{Places}
 use Rattle.flash_index.specs.KeyLists.{KeyCard, KeyLists}
 use Rattle.flash_index.specs.IndexState.{IndexState}
 
@@ -23,10 +25,21 @@ lists_code =
     (λ p. record { hot = p.0; warm = p.1.0; cold = p.1.1 })
     (λ _. refl)
 
+abbrev pub places_code : Coded Places
+places_code = code (coded_list coded_ℕ) place_code
+
 abbrev pub index_code : Coded IndexState
 index_code =
-    code_by (Items × (KeyLists × (ℕ × (Ids × ℕ))))
-    (coded× items_code (coded× lists_code (coded× coded_ℕ (coded× (code (coded_list coded_ℕ) coded_ℕ) coded_ℕ))))
-    (λ s. (s.items, (s.lists, (s.memory, (s.ids, s.spare)))))
-    (λ p. record { items = p.0; lists = p.1.0; memory = p.1.1.0; ids = p.1.1.1.0; spare = p.1.1.1.1 })
+    code_by (Items × (Places × (KeyLists × (ℕ × (Ids × ℕ)))))
+    (coded× items_code (coded× places_code (coded× lists_code (coded× coded_ℕ
+    (coded× (code (coded_list coded_ℕ) coded_ℕ) coded_ℕ)))))
+    (λ s. (s.items, (s.places, (s.lists, (s.memory, (s.ids, s.spare))))))
+    (λ p. record {
+      items = p.0;
+      places = p.1.0;
+      lists = p.1.1.0;
+      memory = p.1.1.1.0;
+      ids = p.1.1.1.1.0;
+      spare = p.1.1.1.1.1;
+    })
     (λ _. refl)

@@ -4,12 +4,14 @@ use Rattle.std.specs.FinMap.{get}
 use Rattle.flash_names.specs.declared.place.ItemId.{ItemId}
 use Rattle.flash_items.specs.ItemsState.{Ids}
 use Rattle.flash_machine.specs.Cache.{Items}
+use Rattle.flash_index.specs.Places.{Places}
 use Rattle.flash_index.specs.KeyLists.{KeyLists}
 
--- each key's item; the three lists of the keys; the memory of which HOT and WARM have their shares; each key's id;
--- and how many items more are sure to take no memory
+-- each key's item; the place of each value that is on flash; the three lists of the keys; the memory of which HOT and
+-- WARM have their shares; each key's id; and how many items more are sure to take no memory
 pub record IndexState : Type 0 where
   pub items : Items
+  pub places : Places
   pub lists : KeyLists
   pub memory : ℕ
   pub ids : Ids

@@ -61,6 +61,18 @@ moved segment key size lists = put_front segment (idle key size) (removed key li
 abbrev pub with_active : List ℕ → List KeyCard → List KeyCard
 with_active key cards = map (λ card. if is_of key card then record card { active = true } else card) cards
 
+-- the cards with the key's of this size
+abbrev pub with_size : List ℕ → ℕ → List KeyCard → List KeyCard
+with_size key size cards = map (λ card. if is_of key card then record card { size = size } else card) cards
+
+-- the key's card has this size
+abbrev pub resized : List ℕ → ℕ → KeyLists → KeyLists
+resized key size lists = record {
+  hot = with_size key size lists.hot;
+  warm = with_size key size lists.warm;
+  cold = with_size key size lists.cold;
+}
+
 -- the key's card is active
 abbrev pub touched : List ℕ → KeyLists → KeyLists
 touched key lists = record {

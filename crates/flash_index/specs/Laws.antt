@@ -5,7 +5,7 @@ use Rattle.flash_lru.specs.declared.segment.Segment.TheVariants.{Hot}
 use Rattle.flash_machine.specs.Item.{Item}
 use Rattle.flash_machine.specs.Cache.{Items}
 use Rattle.flash_machine.specs.Load.{item_load, load_of}
-use Rattle.flash_index.specs.KeyLists.{KeyLists, empty_lists, moved, removed, touched}
+use Rattle.flash_index.specs.KeyLists.{KeyLists, empty_lists, moved, removed, touched, resized}
 use Rattle.flash_index.specs.KeyEnds.{last_key, last_out}
 use Rattle.flash_index.specs.KeyJuggle.{bytes_of, next_move, with_move}
 use Rattle.flash_index.specs.Listed.{IsListed}
@@ -31,6 +31,12 @@ abbrev pub EachChangeIsListed : Type 0
 EachChangeIsListed =
     (items : Items) (lists : KeyLists) (key : List ℕ) (was now : Item) → IsListed items lists
     → get items key ≡ Some was → item_load key now ≡ item_load key was → IsListed (insert items key now) lists
+
+-- an item that changes its size stays where it is, and its card has the size
+abbrev pub EachResizeIsListed : Type 0
+EachResizeIsListed =
+    (items : Items) (lists : KeyLists) (key : List ℕ) (now : Item) → IsListed items lists → IsSome (get items key)
+    → IsListed (insert items key now) (resized key (item_load key now) lists)
 
 -- a card that becomes active stays where it is
 abbrev pub EachUseIsListed : Type 0

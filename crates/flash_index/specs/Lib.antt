@@ -1,9 +1,13 @@
 pub mod Known
+pub mod Places
 pub mod KeyLists
 pub mod KeyEnds
 pub mod KeyJuggle
+pub mod NextToMove
 pub mod Listed
 pub mod IndexState
 pub mod Codes
 pub mod Seen
+pub mod Walk
+pub mod Marking
 pub mod Laws

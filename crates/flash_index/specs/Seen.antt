@@ -1,6 +1,7 @@
 -- What the index sees of the items: keys in place of ids. No public clause cites this module.
-use Rattle.std.specs.Prelude.{ℕ, false, List, [], map, Option, None, Some}
+use Rattle.std.specs.Prelude.{ℕ, false, List, [], ◌∷◌, map, Option, None, Some}
 use Rattle.std.specs.FinMap as finite
+use Rattle.flash_names.specs.declared.place.Place.{Place}
 use Rattle.flash_lru.specs.Lists.{SegmentLists}
 use Rattle.flash_lru.specs.declared.card.Card.{Card}
 use Rattle.flash_items.specs.declared.item.Item.{Item}
@@ -8,6 +9,7 @@ use Rattle.flash_items.specs.ItemsState.{ItemMap, ItemsState}
 use Rattle.flash_machine.specs.Item as machine
 use Rattle.flash_machine.specs.Cache.{Items}
 use Rattle.flash_index.specs.Known.{known_item}
+use Rattle.flash_index.specs.Places.{Places, place_of, with_place}
 use Rattle.flash_index.specs.KeyLists.{KeyCard, KeyLists}
 use Rattle.flash_index.specs.IndexState.{IndexState}
 
@@ -38,6 +40,21 @@ unfoldable pub items_seen : ItemsState → Items
 items_seen s =
     finite.from_entries (map (λ entry. (entry.0, known_or (finite.get s.items entry.1))) (finite.entries s.ids))
 
+-- the place of the value of the item that an id has
+abbrev pub place_or : Option Item → Option Place
+place_or None = None
+place_or (Some item) = place_of item.body
+
+-- the places of the values of these keys' items, by the ids that the keys have
+abbrev pub places_from : ItemMap → List (List ℕ × ℕ) → Places
+places_from items [] = finite.empty
+places_from items (entry ∷ entries) =
+    with_place entry.0 (place_or (finite.get items entry.1)) (places_from items entries)
+
+-- the place of each key's value that is on flash
+unfoldable pub places_seen : ItemsState → Places
+places_seen s = places_from s.items (finite.entries s.ids)
+
 -- a card, by its item's key
 abbrev pub card_seen : ItemMap → Card → KeyCard
 card_seen items card =
@@ -55,6 +72,7 @@ lists_seen items lists = record {
 abbrev pub seen : ItemsState → IndexState
 seen s = record {
   items = items_seen s;
+  places = places_seen s;
   lists = lists_seen s.items s.lists;
   memory = s.lists.memory;
   ids = s.ids;

@@ -1,26 +1,35 @@
-ghost use Rattle.std.specs.Prelude.{◌≡◌, ◌≤◌, ℕ, List, length, Some, IfOk, OnOk, is_some, option_map, nat_eq};
+ghost use Rattle.std.specs.Prelude.{◌≡◌, ◌≤◌, ◌+◌, ℕ, List, length, Some, IfOk, OnOk, is_some, option_map, nat_eq};
 ghost use Rattle.std.specs.FinMap as map;
 ghost use Rattle.flash_items.specs.Item.{IsSmall};
 ghost use Rattle.flash_lru.specs.declared.segment.Segment.TheVariants.{Hot};
 ghost use Rattle.flash_machine.specs.Item as machine;
 ghost use Rattle.flash_machine.specs.Load.{item_load, load_of};
 ghost use Rattle.flash_index.specs.Known.{known_item, known_parts};
-ghost use Rattle.flash_index.specs.KeyLists.{empty_lists, list_of, moved, removed, touched};
+ghost use Rattle.flash_index.specs.Places.{place_of, with_place};
+ghost use Rattle.flash_index.specs.KeyLists.{empty_lists, list_of, moved, removed, touched, resized};
 ghost use Rattle.flash_index.specs.KeyEnds.{last_key, last_out, before};
 ghost use Rattle.flash_index.specs.KeyJuggle.{next_move, with_move};
+ghost use Rattle.flash_index.specs.NextToMove.{next_key_to_move};
 ghost use Rattle.flash_index.specs.IndexState.{IndexState, Names, HasId, AreNamed};
 ghost use Rattle.flash_index.specs.Listed.{IsListed};
 
-use flash_items::{Item, ItemView, Items};
+use crate::marks::Marks;
+use crate::move_rule::{MoveBounds, MoveRule};
+use crate::moving::{marked, next_to_move};
+use flash_items::{Body, Item, ItemView, Items};
 use flash_lru::Segment;
-use flash_names::{ItemId, Key};
+use flash_names::{ItemId, Key, Place};
 use std::alloc::{AllocError, Global};
 use std::marker::Model;
+
+// The bounds before the first search.
+const NO_BOUNDS: MoveBounds = MoveBounds { least: 0, most: 0 };
 
 /// The items under their keys, and the three lists of the keys.
 #[derive(Drop)]
 pub struct Index {
     items: Items,
+    marks: Marks,
 }
 
 impl Model for Index {
@@ -32,8 +41,11 @@ impl Model for Index {
     ghost coded = { index_code };
 
     ghost use Rattle.flash_index.specs.Seen.{seen};
+    ghost use Rattle.flash_index.specs.Marking.{AreMarks};
 
     ghost view = { λ s. seen s.items };
+
+    ghost invariant = { λ s. AreMarks s.marks s.items };
 }
 
 impl Index {
@@ -42,6 +54,7 @@ impl Index {
     pub fn open(alloc: Global, memory: u64) -> Result<Index, AllocError>
         ensures { IfOk result (λ index. index ≡ record {
           items = map.empty;
+          places = map.empty;
           lists = empty_lists;
           memory = memory;
           ids = map.empty;
@@ -50,6 +63,7 @@ impl Index {
     {
         Ok(Index {
             items: Items::open(alloc, memory)?,
+            marks: Marks::none(NO_BOUNDS),
         })
     }
 
@@ -73,6 +87,18 @@ impl Index {
         self.items.item(id)
     }
 
+    /// The place of the value of this id's item, where it is on flash. There has to be an item.
+    pub fn place(&self, id: ItemId) -> Option<Place>
+        requires { HasId self.now id }
+        ensures { (key : List ℕ) → Names self.now id key → result ≡ map.get self.now.places key }
+    {
+        self.items.is_in_step();
+        match &self.items.item(id).parts.body {
+            Body::Here(_) => None,
+            Body::Away(place) => Some(*place),
+        }
+    }
+
     /// Makes room for one item more, or answers that it is out of memory. The items and the lists stay.
     pub fn reserve_one(&mut self, alloc: Global) -> Result<(), AllocError>
         ensures room { OnOk result (1 ≤ self.new.spare) }
@@ -88,6 +114,7 @@ impl Index {
         requires id { option_map (λ id. id.key) id ≡ map.get self.old.ids item.key }
         requires small { IsSmall item.body }
         ensures items { self.new.items ≡ map.insert self.old.items item.key (known_item item) }
+        ensures places { self.new.places ≡ with_place item.key (place_of item.body) self.old.places }
         ensures lists { self.new.lists ≡ moved Hot item.key (item_load item.key (known_item item)) self.old.lists }
         ensures memory { self.new.memory ≡ self.old.memory }
     {
@@ -97,6 +124,7 @@ impl Index {
                 let _ = self.items.insert(item);
             }
             Some(id) => {
+                self.marks = self.marks.after(Some(id), None);
                 let _ = self.items.replace(id, item);
             }
         }
@@ -106,11 +134,13 @@ impl Index {
     pub fn remove(&mut self, id: ItemId)
         requires { HasId self.old id }
         ensures items { (key : List ℕ) → Names self.old id key → self.new.items ≡ map.remove self.old.items key }
+        ensures places { (key : List ℕ) → Names self.old id key → self.new.places ≡ map.remove self.old.places key }
         ensures lists { (key : List ℕ) → Names self.old id key → self.new.lists ≡ removed key self.old.lists }
         ensures memory { self.new.memory ≡ self.old.memory }
         ensures spare { self.old.spare ≤ self.new.spare }
     {
         self.items.is_in_step();
+        self.marks = self.marks.after(Some(id), None);
         let _ = self.items.remove(id);
     }
 
@@ -129,6 +159,24 @@ impl Index {
     {
         self.items.is_in_step();
         self.items.set_use(id, deadline, fetched, access)
+    }
+
+    /// Gives the memory of the value of this id's item back: from now on the value is in a record on flash, at this
+    /// place. The item's card stays where it is, and has the size that the item has then. There has to be an item, and
+    /// the record has 32 bytes beside the key and the value.
+    pub fn move_away(&mut self, id: ItemId, place: Place)
+        requires there { HasId self.old id }
+        requires length { (key : List ℕ) (item : machine.Item) → Names self.old id key
+            → map.get self.old.items key ≡ Some item → place.length ≡ 32 + length key + length item.value }
+        ensures { (key : List ℕ) (item : machine.Item) → Names self.old id key → map.get self.old.items key ≡ Some item
+            → self.new ≡ record self.old {
+              items = map.insert self.old.items key (machine.moved_head place.label item);
+              places = map.insert self.old.places key place;
+              lists = resized key (item_load key (machine.moved_head place.label item)) self.old.lists;
+            } }
+    {
+        self.items.is_in_step();
+        let _ = self.items.set_body(id, Body::Away(place));
     }
 
     /// Marks the item of this id as active in its list. There has to be one.
@@ -166,6 +214,20 @@ impl Index {
         self.items.before(id)
     }
 
+    /// The item that moves to flash next: the first, from the last of COLD, then of WARM, then of HOT, towards the
+    /// front, that may move by the rule.
+    ///
+    /// What can't move while it stays in its list, because its value is on flash or its sizes aren't within the rule's
+    /// bounds, is passed over once, and not again by the next search with the same bounds.
+    pub fn next_to_move(&mut self, rule: &MoveRule) -> Option<ItemId>
+        ensures named { AreNamed self.old result (next_key_to_move rule.now self.old.items self.old.lists) }
+        ensures same { self.new ≡ self.old }
+    {
+        self.items.is_in_step();
+        self.marks = marked(&self.items, &self.marks, rule.bounds());
+        next_to_move(&self.items, &self.marks, rule)
+    }
+
     /// Makes the first move of a key between the lists that applies, and answers whether there is one: from a HOT
     /// above 20 % of the memory, from a WARM above 40 %, or of an active last of COLD.
     pub fn juggle_one(&mut self) -> bool
@@ -174,7 +236,9 @@ impl Index {
             ≡ record self.old { lists = with_move (next_move self.old.memory self.old.lists) self.old.lists } }
     {
         self.items.is_in_step();
-        self.items.juggle_one().is_some()
+        let moved = self.items.juggle_one();
+        self.marks = self.marks.after(moved, None);
+        moved.is_some()
     }
 
     /// How many items there are.

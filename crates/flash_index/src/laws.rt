@@ -1,6 +1,6 @@
 // Laws of the three lists. Each function has no body: its contract is the law.
 ghost use Rattle.flash_index.specs.Laws.{NoItemsAreListed, EachPutIsListed, EachRemovalIsListed, EachChangeIsListed};
-ghost use Rattle.flash_index.specs.Laws.{EachUseIsListed, EachMoveIsListed, TheLoadIsThatOfTheLists};
+ghost use Rattle.flash_index.specs.Laws.{EachResizeIsListed, EachUseIsListed, EachMoveIsListed, TheLoadIsThatOfTheLists};
 ghost use Rattle.flash_index.specs.Laws.{EachLastHasAnItem, NoLastIsNoLoad};
 
 /// No items have empty lists.
@@ -21,6 +21,11 @@ pub fn each_removal_is_listed()
 /// An item that changes and keeps its size stays where it is.
 pub fn each_change_is_listed()
     ensures { EachChangeIsListed }
+{}
+
+/// An item that changes its size stays where it is, and its card has the size.
+pub fn each_resize_is_listed()
+    ensures { EachResizeIsListed }
 {}
 
 /// A card that becomes active stays where it is.

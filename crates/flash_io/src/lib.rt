@@ -21,6 +21,3 @@ pub use job::{Asked, Collected, ReadJob, Ticket};
 pub use laws::{closes_once, finds_the_queued};
 pub use row::State;
 pub use tickets::Tickets;
-
-#[cfg(test)]
-mod tests;

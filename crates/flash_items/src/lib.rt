@@ -22,6 +22,3 @@ mod laws;
 pub use item::{Body, Item, ItemView, Parts};
 pub use items::Items;
 pub use laws::{finds_the_inserted, lists_each_once};
-
-#[cfg(test)]
-mod tests;

@@ -23,6 +23,3 @@ mod shares;
 pub use card::Card;
 pub use segment::Segment;
 pub use segments::Segments;
-
-#[cfg(test)]
-mod tests;

@@ -23,6 +23,3 @@ pub use laws::{
 pub use line::read_meta;
 pub use meta::{Meta, MetaLine, MetaVerb};
 pub use verbs::is_meta;
-
-#[cfg(test)]
-mod tests;

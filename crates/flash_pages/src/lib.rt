@@ -17,6 +17,3 @@ mod victims;
 pub use law::keeps_the_law;
 pub use page_row::Bucket;
 pub use pages::{Opened, Pages, Pinned};
-
-#[cfg(test)]
-mod tests;

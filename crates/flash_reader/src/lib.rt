@@ -17,6 +17,3 @@ mod wanted;
 
 pub use front::{Asked, Front};
 pub use reader::{LINE_LIMIT, Reader};
-
-#[cfg(test)]
-mod tests;

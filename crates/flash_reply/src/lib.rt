@@ -26,6 +26,3 @@ pub use reply::{
     reply_sum, reply_tally, reply_touched,
 };
 pub use text_replies::reply_look;
-
-#[cfg(test)]
-mod tests;

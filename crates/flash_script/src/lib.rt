@@ -23,8 +23,3 @@ pub use laws::{
 };
 pub use script::{MAX_BYTES, MAX_STEPS, NotRead, Script, read_script};
 pub use step::{MAX_SESSIONS, SessionNumber, Step, Upkeep};
-
-#[cfg(test)]
-mod feed_tests;
-#[cfg(test)]
-mod script_tests;

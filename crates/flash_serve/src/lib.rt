@@ -26,6 +26,3 @@ pub use maker::{MakeError, Maker};
 pub use options::{Options, Reading, read_options};
 pub use real::{NetMaker, Trouble, WallClock};
 pub use serve::{ServeStatus, run_serve};
-
-#[cfg(test)]
-mod tests;

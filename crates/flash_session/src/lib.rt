@@ -27,6 +27,3 @@ pub use laws::{
 };
 pub use session::Session;
 pub use todo::{Ending, Todo};
-
-#[cfg(test)]
-mod tests;

@@ -26,6 +26,3 @@ pub use line::read_line;
 pub use text::{Line, Refusal, Text, Verb};
 pub use values::{is_key, number_at_most, read_exptime};
 pub use words::{next_word, trimmed, without_return};
-
-#[cfg(test)]
-mod tests;

@@ -18,6 +18,3 @@ mod run;
 pub use fault::Status;
 pub use laws::every_trace_is_right;
 pub use run::run_trace;
-
-#[cfg(test)]
-mod tests;

@@ -24,7 +24,11 @@ impl<T: Shared + Drop> Turn<T> {
         requires { IsPassOf T.fixed self pass }
         ensures { Closes T.story T.own T.fixed self pass result }
     {
-        let Turn { table, sleepers: _ } = self;
+        let Turn {
+            table,
+            sleepers: _,
+            batches: _,
+        } = self;
         let Pass { seat, number: _ } = pass;
         let mut closed = table.close_with(seat);
         let at_end = Snapshot::of(&closed);

@@ -1,5 +1,6 @@
 ghost use Rattle.std.specs.Prelude.{◌≡◌, [], ◌∷◌, Some, None, Box, IfOk, IfErr};
 
+use crate::batches::Batches;
 use crate::held::{Held, HeldIn};
 use crate::rule::{Look, Rule, Slot};
 use crate::sleepers::Sleepers;
@@ -16,6 +17,7 @@ use std::thread::yield_now;
 pub struct Turn<T: Shared> {
     pub(crate) table: Table<Slot<T>, View<T>, Snapshot<T>, Rule<T>, Global>,
     pub(crate) sleepers: Sleepers,
+    pub(crate) batches: Batches,
     ghost sized: { (table.shared.table_id.words ≡ 3) × (table.shared.table_id.slots ≡ 1) },
 }
 
@@ -47,6 +49,7 @@ impl<T: Shared> Turn<T> {
                 let turn = Turn {
                     table,
                     sleepers: Sleepers::new(),
+                    batches: Batches::new(),
                 };
                 Ok((turn, Pass { seat, number: 1 }))
             }

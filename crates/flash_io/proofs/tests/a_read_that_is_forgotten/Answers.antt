@@ -1,4 +1,0 @@
-use Rattle.flash_io.proofs.tests.a_read_that_is_forgotten.Goals as goal
-
-pub submit-requires : goal.submit-requires
-submit-requires g c = λ slot h. c.new-tickets.ensures.fresh _ slot h
