@@ -1,15 +1,14 @@
 -- Whatever the keeper does changes the store.
 use Rattle.std.proofs.Common.{◌≡◌, ◌||◌, ℕ, Bool, true, false, cond, not, List, [], ◌∷◌, Option, None, Some, IsSome, inl, inr, refl, sym, ◌∙◌, ap, subst}
-use Rattle.std.proofs.lemmas.Bool.{cases_Bool}
-use Rattle.std.specs.Prelude.{is_some, nat_lt, if◌then◌else◌}
+use Rattle.std.specs.Prelude.{is_some, nat_lt, option_map, if◌then◌else◌}
 use Rattle.std.specs.List.{AllByRecursion}
 use Rattle.std.specs.Option.{option_or}
 use Rattle.std.specs.FinMap.{get, remove}
 use Rattle.flash_names.specs.declared.geometry.Geometry.{Geometry}
+use Rattle.flash_entry.specs.declared.entry.DropCause.{DropCause}
 use Rattle.flash_entry.specs.declared.entry.DropCause.TheVariants as causes
 use Rattle.flash_lru.specs.declared.segment.Segment.TheVariants.{Warm}
 use Rattle.flash_lru.specs.Juggle.{goes_to}
-use Rattle.flash_machine.specs.Item.{Item}
 use Rattle.flash_machine.specs.Cache.{Cache, Items}
 use Rattle.flash_machine.specs.Load.{load_of}
 use Rattle.flash_machine.specs.Deleting.{without_item}
@@ -18,13 +17,14 @@ use Rattle.flash_index.specs.KeyEnds.{last_card, last_key, last_out}
 use Rattle.flash_index.specs.KeyJuggle.{KeyMove, from_full, from_cold, exceeds, next_move, with_move}
 use Rattle.flash_index.specs.Listed.{IsListed}
 use Rattle.flash_index.proofs.Passing.{all_by, last_passes}
-use Rattle.flash_index.proofs.Lookups.{true_false, none_some, key_itself, cases_key, cut_here, cut_else}
+use Rattle.flash_index.proofs.Lookups.{true_false, key_itself, cases_key, cut_here, cut_else}
 use Rattle.flash_index.proofs.ListLaws.{move_listed, last_has_item}
-use Rattle.flash_core.specs.Store.{Desk, Call}
-use Rattle.flash_core.specs.Sweeps.{is_expired_at}
-use Rattle.flash_core.specs.Calls.{drop_if, if_expired, expired_last}
+use Rattle.flash_calls.specs.Rooms.{Leaver, drop_if, if_swept, to_reap}
+use Rattle.flash_calls.specs.Store.{Desk, Call}
+use Rattle.flash_calls.specs.Sweeps.{sweep_cause}
 use Rattle.flash_core.specs.SharedStore.{Face}
 use Rattle.flash_actors.specs.Keeping.{tidy_after, keep_after, keeper_call}
+use Rattle.flash_actors.proofs.Evicting.{evicted_if}
 
 -- the card isn't the key's
 abbrev IsNotOf : List ℕ → KeyCard → Type 0
@@ -96,29 +96,28 @@ module _ (lists : KeyLists) where
       (first_differs (exceeds memory 40 lists.warm) (from_full (last_card lists.warm)) (from_cold (last_card lists.cold))
       (warm_differs (last_card lists.warm) refl) (cold_differs (last_card lists.cold) refl))
 
--- what holds of either key that is there
-or_either : (P : List ℕ → Type 0) (a b : Option (List ℕ)) → ((k : List ℕ) → a ≡ Some k → P k) → ((k : List ℕ) → b ≡ Some k → P k)
-    → (k : List ℕ) → option_or a b ≡ Some k → P k
-or_either P None b one two k is = two k is
-or_either P (Some key) b one two k is = one k is
+-- what holds of either that is there
+or_either : {A : Type 0} (P : A → Type 0) (a b : Option A) → ((x : A) → a ≡ Some x → P x) → ((x : A) → b ≡ Some x → P x)
+    → (x : A) → option_or a b ≡ Some x → P x
+or_either P None b one two x is = two x is
+or_either P (Some a) b one two x is = one x is
 
-module _ (c : Cache) where
-  dead_there : (found : Option Item) → is_expired_at c found ≡ true → IsSome found
-  dead_there None is = absurd (true_false (sym is))
-  dead_there (Some item) is = refl
+-- an item that is reaped is that of a list's last key, and so there is one
+module _ (c : Cache) (desk : Desk) (listed : IsListed c.items desk.lists) where
+  swept_by : (key : List ℕ) (cause : Option DropCause) (l : Leaver) → option_map (λ cause. record { key = key; cause = cause }) cause ≡ Some l → Some key ≡ Some l.key
+  swept_by key None l is = absurd (cc is)
+  swept_by key (Some cause) l is = let same : record { key = key; cause = cause } ≡ l = cc is in ap (λ (l : Leaver). Some l.key) same
 
-  expired_there : (key : Option (List ℕ)) (k : List ℕ) → if_expired c key ≡ Some k → IsSome (get c.items k)
-  expired_there None k is = absurd (none_some k is)
-  expired_there (Some key) k is = by (is_expired_at c (get c.items key)) refl is
-    where
-      by : (dead : Bool) → is_expired_at c (get c.items key) ≡ dead → (if dead then Some key else None) ≡ Some k → IsSome (get c.items k)
-      by true e same = let at : key ≡ k = cc in subst (λ q. IsSome (get c.items q)) at (dead_there (get c.items key) e)
-      by false e none = absurd (none_some k none)
+  swept_key : (key : Option (List ℕ)) (l : Leaver) → if_swept c desk key ≡ Some l → key ≡ Some l.key
+  swept_key None l is = absurd (cc is)
+  swept_key (Some key) l is = swept_by key (sweep_cause c desk key) l is
 
-  expired_last_there : (lists : KeyLists) (k : List ℕ) → expired_last c lists ≡ Some k → IsSome (get c.items k)
-  expired_last_there lists =
-      let P : List ℕ → Type 0 = λ k. IsSome (get c.items k) in
-      or_either P _ _ (expired_there (last_key lists.cold)) (or_either P _ _ (expired_there (last_key lists.warm)) (expired_there (last_key lists.hot)))
+  reaped_there : (l : Leaver) → to_reap c desk ≡ Some l → IsSome (get c.items l.key)
+  reaped_there =
+      let P : Leaver → Type 0 = λ l. IsSome (get c.items l.key) in
+      or_either P _ _ (λ l is. (last_has_item c.items desk.lists listed l.key).2 (swept_key (last_key desk.lists.cold) l is))
+      (or_either P _ _ (λ l is. (last_has_item c.items desk.lists listed l.key).1 (swept_key (last_key desk.lists.warm) l is))
+      (λ l is. (last_has_item c.items desk.lists listed l.key).0 (swept_key (last_key desk.lists.hot) l is)))
 
 out_there : (items : Items) (lists : KeyLists) → IsListed items lists → (k : List ℕ) → last_out lists ≡ Some k → IsSome (get items k)
 out_there items lists listed =
@@ -134,49 +133,50 @@ module _ (g : Geometry) (c : Cache) (desk : Desk) (listed : IsListed c.items des
   abbrev start : Face
   start = record { cache = c; desk = desk }
 
-  -- the keeper's calls, where this key's item is reaped
-  abbrev kept_from : Option (List ℕ) → Call Bool
-  kept_from dead = keep_after g (tidy_after g (drop_if c desk causes.Dead dead))
+  -- the keeper's calls, where this item is reaped
+  abbrev kept_from : Option Leaver → Call Bool
+  kept_from leaver = keep_after g (tidy_after g (drop_if c desk leaver))
 
   -- the drop of another item, if there is one, leaves none under a key without one
-  still_gone : (now : Cache) (there : Desk) (key : List ℕ) → get now.items key ≡ None → (out : Option (List ℕ))
-      → get (drop_if now there causes.Evict out).cache.items key ≡ None
+  still_gone : (now : Cache) (there : Desk) (key : List ℕ) → get now.items key ≡ None → (out : Option Leaver)
+      → get (drop_if now there out).cache.items key ≡ None
   still_gone now there key none None = none
-  still_gone now there key none (Some other) = elim (cases_key key other) [
-    | inl same ↦ subst (λ q. get (remove now.items other) q ≡ None) (sym same) (cut_here now.items other)
-    | inr apart ↦ cut_else now.items other key apart ∙ none
+  still_gone now there key none (Some other) = elim (cases_key key other.key) [
+    | inl same ↦ subst (λ q. get (remove now.items other.key) q ≡ None) (sym same) (cut_here now.items other.key)
+    | inr apart ↦ cut_else now.items other.key key apart ∙ none
   ]
 
   abbrev moved_desk : Desk
   moved_desk = record desk { lists = with_move (next_move g.memory desk.lists) desk.lists }
 
-  -- the key of the item that is evicted, if one is
-  abbrev evicted : Bool → Option (List ℕ)
-  evicted full = if full then last_out moved_desk.lists else None
+  -- an item that is evicted is that of the key that leaves memory next
+  out_key : (out : Option (List ℕ)) (l : Leaver) → evicted_if true out ≡ Some l → out ≡ Some l.key
+  out_key None l is = absurd (cc is)
+  out_key (Some key) l is = let same : record { key = key; cause = causes.Evict } ≡ l = cc is in ap (λ (l : Leaver). Some l.key) same
 
-  evicted_there : (full : Bool) (key : List ℕ) → evicted full ≡ Some key → IsSome (get c.items key)
-  evicted_there true key is = out_there c.items moved_desk.lists (move_listed c.items desk.lists listed g.memory) key is
-  evicted_there false key is = absurd (none_some key is)
+  evicted_there : (full : Bool) (l : Leaver) → evicted_if full (last_out moved_desk.lists) ≡ Some l → IsSome (get c.items l.key)
+  evicted_there true l is = out_there c.items moved_desk.lists (move_listed c.items desk.lists listed g.memory) l.key (out_key (last_out moved_desk.lists) l is)
+  evicted_there false l is = absurd (cc is)
 
-  by_room : (full : Bool) (out : Option (List ℕ)) → evicted full ≡ out
-      → (is_some (next_move g.memory desk.lists) || is_some (drop_if c moved_desk causes.Evict out).answer) ≡ true
-      → record { cache = (drop_if c moved_desk causes.Evict out).cache; desk = (drop_if c moved_desk causes.Evict out).desk } ≡ start → ⊥
+  by_room : (full : Bool) (out : Option Leaver) → evicted_if full (last_out moved_desk.lists) ≡ out
+      → (is_some (next_move g.memory desk.lists) || is_some (drop_if c moved_desk out).answer) ≡ true
+      → record { cache = (drop_if c moved_desk out).cache; desk = (drop_if c moved_desk out).desk } ≡ start → ⊥
   by_room full None is done same =
       move_differs desk.lists g.memory (moves_alone (is_some (next_move g.memory desk.lists)) done) (ap (λ (f : Face). f.desk.lists) same)
     where
       moves_alone : (b : Bool) → (b || false) ≡ true → b ≡ true
       moves_alone true e = refl
       moves_alone false e = e
-  by_room full (Some key) is done same =
-      gone c.items key (evicted_there full key is) (ap (λ (f : Face). get f.cache.items key) (sym same) ∙ cut_here c.items key)
+  by_room full (Some l) is done same =
+      gone c.items l.key (evicted_there full l is) (ap (λ (f : Face). get f.cache.items l.key) (sym same) ∙ cut_here c.items l.key)
 
-  by_reaping : (dead : Option (List ℕ)) → expired_last c desk.lists ≡ dead → (kept_from dead).answer ≡ true
-      → record { cache = (kept_from dead).cache; desk = (kept_from dead).desk } ≡ start → ⊥
+  by_reaping : (leaver : Option Leaver) → to_reap c desk ≡ leaver → (kept_from leaver).answer ≡ true
+      → record { cache = (kept_from leaver).cache; desk = (kept_from leaver).desk } ≡ start → ⊥
   by_reaping None is done same = by_room (nat_lt g.memory (load_of c.items)) _ refl done same
-  by_reaping (Some key) is done same =
-      gone c.items key (expired_last_there c desk.lists key is)
-      (ap (λ (f : Face). get f.cache.items key) (sym same) ∙ still_gone (without_item c key) _ key (cut_here c.items key) _)
+  by_reaping (Some l) is done same =
+      gone c.items l.key (reaped_there c desk listed l is)
+      (ap (λ (f : Face). get f.cache.items l.key) (sym same) ∙ still_gone (without_item c l.key) _ l.key (cut_here c.items l.key) _)
 
 pub keeper_differs : (g : Geometry) (c : Cache) (desk : Desk) → IsListed c.items desk.lists → (keeper_call g c desk).answer ≡ true → (after : Face)
     → after ≡ record { cache = (keeper_call g c desk).cache; desk = (keeper_call g c desk).desk } → after ≡ record { cache = c; desk = desk } → ⊥
-keeper_differs g c desk listed done after is same = by_reaping g c desk listed (expired_last c desk.lists) refl done (sym is ∙ same)
+keeper_differs g c desk listed done after is same = by_reaping g c desk listed (to_reap c desk) refl done (sym is ∙ same)

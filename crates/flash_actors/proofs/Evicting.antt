@@ -1,6 +1,6 @@
 -- Items that are evicted, one after another.
 use Rattle.std.proofs.Common.{◌≡◌, ℕ, ◌+◌, ◌≤◌, List, [], ◌∷◌, ◌++◌, length, Option, None, Some, refl, sym, ◌∙◌, ap, append_assoc, length-append, arith}
-use Rattle.std.specs.Prelude.{nat_lt, if◌then◌else◌}
+use Rattle.std.specs.Prelude.{Bool, true, false, nat_lt, option_map, if◌then◌else◌}
 use Rattle.std.specs.List.{AllByRecursion}
 use Rattle.std.proofs.lemmas.List.{append-nil}
 use Rattle.flash_names.specs.Told.{with_more}
@@ -10,9 +10,9 @@ use Rattle.flash_entry.specs.declared.entry.Entry.TheVariants as entries
 use Rattle.flash_machine.specs.Cache.{Cache}
 use Rattle.flash_machine.specs.Load.{load_of}
 use Rattle.flash_index.specs.KeyEnds.{last_out}
-use Rattle.flash_core.specs.Store.{Desk, Store, Becomes, Stays}
-use Rattle.flash_core.specs.Calls.{drop_if, room_call}
-use Rattle.flash_core.proofs.News.{all_behind}
+use Rattle.flash_calls.specs.Rooms.{Leaver, drop_if, room_call}
+use Rattle.flash_calls.specs.Store.{Desk, Store, Becomes, Stays}
+use Rattle.flash_calls.proofs.Quiet.{all_behind}
 use Rattle.flash_answers.specs.Records.{entry_ask, AreOfNoStep}
 use Rattle.flash_actors.specs.Stepping.{IsEviction, HasEvictedUpTo}
 
@@ -34,15 +34,21 @@ pub evictions_unasked : (es : List Entry) → AllByRecursion IsEviction es → A
 evictions_unasked [] each = tt
 evictions_unasked (e ∷ es) each = (eviction_unasked e each.0, evictions_unasked es each.1)
 
+-- the item that is evicted where there is no room, if there is one
+abbrev pub evicted_if : Bool → Option (List ℕ) → Option Leaver
+evicted_if full out = if full then option_map (λ key. record { key = key; cause = causes.Evict }) out else None
+
 -- an item that is evicted, or none
 module _ (c : Cache) (desk : Desk) where
-  one_eviction : (key : Option (List ℕ)) → AllByRecursion IsEviction (drop_if c desk causes.Evict key).entries
-  one_eviction None = tt
-  one_eviction (Some key) = (tt, tt)
+  one_eviction : (full : Bool) (out : Option (List ℕ)) → AllByRecursion IsEviction (drop_if c desk (evicted_if full out)).entries
+  one_eviction true None = tt
+  one_eviction true (Some key) = (tt, tt)
+  one_eviction false out = tt
 
-  one_entry : (key : Option (List ℕ)) → length (drop_if c desk causes.Evict key).entries ≤ 1
-  one_entry None = omega arith
-  one_entry (Some key) = omega arith
+  one_entry : (full : Bool) (out : Option (List ℕ)) → length (drop_if c desk (evicted_if full out)).entries ≤ 1
+  one_entry true None = omega arith
+  one_entry true (Some key) = omega arith
+  one_entry false out = omega arith
 
 -- a store that nothing was evicted from
 pub evicts_none : (most : ℕ) (s : Store) → HasEvictedUpTo most s s
@@ -57,13 +63,14 @@ evicts_fewer few most old new within room =
 pub evicts_more : (most : ℕ) (old mid new : Store) → HasEvictedUpTo most old mid → Becomes mid (room_call mid.geometry mid.cache mid.desk) new
     → HasEvictedUpTo (most + 1) old new
 evicts_more most old mid new room round =
-    let key = if nat_lt mid.geometry.memory (load_of mid.cache.items) then last_out mid.desk.lists else None in
+    let full = nat_lt mid.geometry.memory (load_of mid.cache.items) in
+    let out = last_out mid.desk.lists in
     let es = (room_call mid.geometry mid.cache mid.desk).entries in
     record {
       evicted = room.evicted ++ es;
       told = ap (λ (s : Store). s.told) round ∙ ap (with_more es) room.told ∙ more_both room.evicted es old.told;
-      each = all_behind IsEviction room.evicted es room.each (one_eviction mid.cache mid.desk key);
-      few = omega (arith, length-append room.evicted es, room.few, one_entry mid.cache mid.desk key);
+      each = all_behind IsEviction room.evicted es room.each (one_eviction mid.cache mid.desk full out);
+      few = omega (arith, length-append room.evicted es, room.few, one_entry mid.cache mid.desk full out);
       geometry = ap (λ (s : Store). s.geometry) round ∙ room.geometry;
     }
 

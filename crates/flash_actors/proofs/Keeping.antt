@@ -1,20 +1,16 @@
 -- What the keeper's calls do, one after another.
 use Rattle.std.proofs.Common.{◌≡◌, ◌||◌, ℕ, Bool, true, false, List, [], ◌++◌, Option, None, Some, inl, inr, refl, sym, ◌∙◌, ap, subst}
-use Rattle.std.specs.Prelude.{is_some, nat_lt, if◌then◌else◌}
+use Rattle.std.specs.Prelude.{is_some}
 use Rattle.std.proofs.lemmas.List.{append-nil}
 use Rattle.std.proofs.lemmas.List.Elements.{filter_map-append}
 use Rattle.flash_names.specs.Told.{with_more}
 use Rattle.flash_names.specs.declared.geometry.Geometry.{Geometry}
-use Rattle.flash_entry.specs.declared.entry.DropCause.{DropCause}
-use Rattle.flash_entry.specs.declared.entry.DropCause.TheVariants as causes
 use Rattle.flash_entry.specs.declared.entry.Entry.{Entry}
 use Rattle.flash_machine.specs.Cache.{Cache}
-use Rattle.flash_machine.specs.Load.{load_of}
-use Rattle.flash_index.specs.KeyEnds.{last_out}
 use Rattle.flash_index.specs.KeyJuggle.{KeyMove, next_move, with_move}
 use Rattle.flash_index.specs.Listed.{IsListed}
-use Rattle.flash_core.specs.Store.{Desk, Store, Call, idle_call, Becomes, Stays}
-use Rattle.flash_core.specs.Calls.{drop_if, expired_last, room_call, reap_call, juggle_call}
+use Rattle.flash_calls.specs.Rooms.{Leaver, drop_if, to_evict, room_call, to_reap, reap_call, juggle_call}
+use Rattle.flash_calls.specs.Store.{Desk, Store, Call, idle_call, Becomes, Stays}
 use Rattle.flash_core.specs.SharedStore.{Face, face_of, step_pair, step_pairs, told_pairs}
 use Rattle.flash_actors.specs.declared.keeper.KeeperStep.{KeeperStep}
 use Rattle.flash_actors.specs.declared.keeper.KeeperStep.TheVariants as steps
@@ -58,10 +54,10 @@ leaves : {A : Type 0} (old new : Store) (call : Call A) → Becomes old call new
 leaves old new call is = (ap (λ (s : Store). s.told) is, ap face_of is)
 
 -- a call that does nothing
-idle_drop : (c : Cache) (desk : Desk) (cause : DropCause) (key : Option (List ℕ)) → is_some (drop_if c desk cause key).answer ≡ false
-    → drop_if c desk cause key ≡ idle_call c desk None
-idle_drop c desk cause None is = refl
-idle_drop c desk cause (Some key) is = absurd (cc is)
+idle_drop : (c : Cache) (desk : Desk) (leaver : Option Leaver) → is_some (drop_if c desk leaver).answer ≡ false
+    → drop_if c desk leaver ≡ idle_call c desk None
+idle_drop c desk None is = refl
+idle_drop c desk (Some leaver) is = absurd (cc is)
 
 module _ (g : Geometry) (c : Cache) (desk : Desk) where
   -- juggling without a move
@@ -73,7 +69,7 @@ module _ (g : Geometry) (c : Cache) (desk : Desk) where
   idle_tidy : (tidy_call g c desk).answer ≡ false → tidy_call g c desk ≡ idle_call c desk false
   idle_tidy is =
       let parts = neither (is_some (reap_call c desk).answer) _ is in
-      let reaped : reap_call c desk ≡ idle_call c desk None = idle_drop c desk causes.Dead (expired_last c desk.lists) parts.0 in
+      let reaped : reap_call c desk ≡ idle_call c desk None = idle_drop c desk (to_reap c desk) parts.0 in
       let juggled : (juggle_call g c desk).answer ≡ false = ap (λ (call : Call (Option (List ℕ))). (juggle_call g call.cache call.desk).answer) (sym reaped) ∙ parts.1 in
       ap (tidy_after g) reaped ∙ idle_move (next_move g.memory desk.lists) juggled
 
@@ -82,7 +78,7 @@ module _ (g : Geometry) (c : Cache) (desk : Desk) where
       let parts = neither (tidy_call g c desk).answer _ is in
       let tidied : tidy_call g c desk ≡ idle_call c desk false = idle_tidy parts.0 in
       let none : is_some (room_call g c desk).answer ≡ false = ap (λ (call : Call Bool). is_some (room_call g call.cache call.desk).answer) (sym tidied) ∙ parts.1 in
-      let roomed : room_call g c desk ≡ idle_call c desk None = idle_drop c desk causes.Evict (if nat_lt g.memory (load_of c.items) then last_out desk.lists else None) none in
+      let roomed : room_call g c desk ≡ idle_call c desk None = idle_drop c desk (to_evict g c desk) none in
       ap (keep_after g) tidied ∙ ap (λ (call : Call (Option (List ℕ))). record { entries = [] ++ call.entries; cache = call.cache; desk = call.desk; answer = false || is_some call.answer }) roomed
 
 -- what the calls leave, by whether one of them did something
@@ -127,9 +123,9 @@ module _ (old new : Store) where
       subst (λ (k : KeeperStep). HasKept k old.geometry old.told (face_of old) new.told (face_of new)) (sym is) (inr both)
 
 -- the calls record no step
-dropped_pairs : (c : Cache) (desk : Desk) (cause : DropCause) (key : Option (List ℕ)) → step_pairs (drop_if c desk cause key).entries ≡ []
-dropped_pairs c desk cause None = refl
-dropped_pairs c desk cause (Some key) = refl
+dropped_pairs : (c : Cache) (desk : Desk) (leaver : Option Leaver) → step_pairs (drop_if c desk leaver).entries ≡ []
+dropped_pairs c desk None = refl
+dropped_pairs c desk (Some leaver) = refl
 
 no_pairs_more : (es : List Entry) (told after : Option (List Entry)) → step_pairs es ≡ [] → after ≡ with_more es told → told_pairs after ≡ told_pairs told
 no_pairs_more es None after none is = ap told_pairs is
@@ -140,14 +136,14 @@ module _ (g : Geometry) (c : Cache) (desk : Desk) where
   tidy_pairs : step_pairs (tidy_call g c desk).entries ≡ []
   tidy_pairs =
       filter_map-append step_pair (reap_call c desk).entries [] ∙ append-nil (step_pairs (reap_call c desk).entries)
-      ∙ dropped_pairs c desk causes.Dead (expired_last c desk.lists)
+      ∙ dropped_pairs c desk (to_reap c desk)
 
   keeper_pairs : step_pairs (keeper_call g c desk).entries ≡ []
   keeper_pairs =
       let tidied = tidy_call g c desk in
       let roomed = room_call g tidied.cache tidied.desk in
       filter_map-append step_pair tidied.entries roomed.entries ∙ ap (λ (l : List (ℕ × Entry)). l ++ step_pairs roomed.entries) tidy_pairs
-      ∙ dropped_pairs tidied.cache tidied.desk causes.Evict (if nat_lt g.memory (load_of tidied.cache.items) then last_out tidied.desk.lists else None)
+      ∙ dropped_pairs tidied.cache tidied.desk (to_evict g tidied.cache tidied.desk)
 
 pub kept_pairs : (step : KeeperStep) (g : Geometry) (told : Option (List Entry)) (face : Face) (told_after : Option (List Entry)) (after : Face)
     → HasKept step g told face told_after after → told_pairs told_after ≡ told_pairs told

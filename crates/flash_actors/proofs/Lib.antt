@@ -1,4 +1,5 @@
 mod Evicting
+mod OwnReads
 mod Locked
 mod Turned
 mod Differing

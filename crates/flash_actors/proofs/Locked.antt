@@ -13,16 +13,17 @@ use Rattle.flash_machine.specs.Cache.{Cache}
 use Rattle.flash_machine.specs.Legal.{Legal}
 use Rattle.flash_machine.specs.Moments.{last_moment}
 use Rattle.flash_machine.specs.NewSteps.{IsNew}
-use Rattle.flash_machine.proofs.Runs.{Legal-split}
-use Rattle.flash_core.specs.Store.{Desk, Store, Becomes, Stays}
-use Rattle.flash_core.specs.Calls.{clock_call}
-use Rattle.flash_core.specs.Sound.{IsRun, IsToldRun, IsNewTold}
-use Rattle.flash_core.proofs.News.{all_behind}
+use Rattle.flash_calls.specs.Calls.{clock_call}
+use Rattle.flash_calls.specs.Running.{IsRunning}
+use Rattle.flash_calls.specs.Store.{Desk, Store, Becomes, Stays}
+use Rattle.flash_calls.proofs.Quiet.{all_behind}
+use Rattle.flash_core.specs.Sound.{HasRun, IsToldRun, IsNewTold}
 use Rattle.flash_answers.specs.AskCalls.{ask_call}
 use Rattle.flash_answers.specs.Laws.{CallsOfNoSession, EachAskNotesItself, NumbersStayNew}
 use Rattle.flash_answers.specs.Records.{entry_ask, AreOfNoStep}
 use Rattle.flash_actors.specs.Stepping.{BothTold, IsNoted, AreEvictions, HasEvicted, IsStep}
 use Rattle.flash_actors.proofs.Evicting.{more_both}
+use Rattle.flash_actors.proofs.OwnReads.{behind_reads}
 
 -- entries of no step behind others
 pub no_steps : (xs ys : List Entry) → AreOfNoStep xs → AreOfNoStep ys → AreOfNoStep (xs ++ ys)
@@ -86,7 +87,7 @@ clock_new_told calls stay g None b id c desk reading new is = λ h told. absurd 
 clock_new_told calls stay g (Some h) b id c desk reading new is = λ j told.
     let es = (clock_call c desk reading).entries in
     let same : h ++ es ≡ j = cc (is, told) in
-    subst (λ (k : List Entry). IsNew k id) same ((stay h es).none id ((calls g c desk).clock reading).entries (new h refl))
+    subst (λ (k : List Entry). IsNew k id) same ((stay h es).none id ((calls g c desk).clock reading) (new h refl))
 
 module _ (calls : CallsOfNoSession) (id : Id) (ask : Ask) (reading : ℕ) (answer : Told) where
   -- after a reading of the clock the moment is at least the reading's
@@ -94,23 +95,22 @@ module _ (calls : CallsOfNoSession) (id : Id) (ask : Ask) (reading : ℕ) (answe
   clock_at g c d desk is = omega (arith, ap (λ (x : Cache). x.now) is, (calls g c desk).moment reading)
 
   -- a step that was done, and after it evictions
-  done_step : EachAskNotesItself → (g : Geometry) (h : List Entry) (c : Cache) (desk : Desk) → IsRun g c h → min reading last_moment ≤ c.now
+  done_step : EachAskNotesItself → (g : Geometry) (h : List Entry) (c : Cache) (desk : Desk) → IsRunning g h c desk → min reading last_moment ≤ c.now
       → let call = ask_call g c desk id ask in
       answer ≡ call.answer → (evicted : List Entry) → AreEvictions evicted → Legal g (h ++ (call.entries ++ evicted))
       → IsStep AreOfNoStep g id ask reading answer h (h ++ (call.entries ++ evicted))
   done_step notes g h c desk run at same evicted room legal =
       let call = ask_call g c desk id ask in
       let n = notes g c h desk id ask run in
-      let front : Legal g (h ++ call.entries) = (Legal-split g (h ++ call.entries) evicted (subst (Legal g) (sym (append_assoc h call.entries evicted)) legal)).0 in
       record {
         more = n.more;
-        own = n.own ∷ [];
+        own = n.own ∷ n.behind;
         evicted = evicted;
         whole = ap (λ (es : List Entry). h ++ (es ++ evicted)) n.whole
-            ∙ ap (λ (es : List Entry). h ++ es) (append_assoc n.more (n.own ∷ []) evicted)
-            ∙ sym (append_assoc h n.more (n.own ∷ evicted));
+            ∙ ap (λ (es : List Entry). h ++ es) (append_assoc n.more (n.own ∷ n.behind) evicted)
+            ∙ sym (append_assoc h n.more ((n.own ∷ n.behind) ++ evicted));
         others = n.others;
-        noted = record { asked = n.asked; outcome = n.told front ∙ ap Some (sym same); moment = omega (arith, at, n.moment) };
+        noted = (record { asked = n.asked; outcome = n.told ∙ ap Some (sym same); moment = omega (arith, at, n.moment) }, behind_reads g c h desk id ask n);
         room = room;
         legal = legal;
       }
@@ -118,10 +118,12 @@ module _ (calls : CallsOfNoSession) (id : Id) (ask : Ask) (reading : ℕ) (answe
   -- a step behind a reading of the clock, and evictions after it, in one lock turn
   pub clocked_step : EachAskNotesItself → (old mid done new : Store) → Becomes old (clock_call old.cache old.desk reading) mid
       → let call = ask_call mid.geometry mid.cache mid.desk id ask in
-      Becomes mid call done → answer ≡ call.answer → HasEvicted done new → IsToldRun mid.geometry mid.cache mid.told
+      Becomes mid call done → answer ≡ call.answer → HasEvicted done new → HasRun mid.geometry mid.cache mid.desk mid.told
       → IsToldRun new.geometry new.cache new.told → BothTold (IsStep AreOfNoStep old.geometry id ask reading answer) old.told new.told
-  clocked_step notes old mid done new clocked did same room run after =
+  clocked_step notes old mid done new clocked did same room has after =
       let call = ask_call mid.geometry mid.cache mid.desk id ask in
+      let runs : (h : List Entry) → mid.told ≡ Some h → IsRunning mid.geometry h mid.cache mid.desk =
+      λ h is. subst (λ (j : List Entry). IsRunning mid.geometry j mid.cache mid.desk) (sym (has.is_told h is)) has.runs in
       let clock = clock_call old.cache old.desk reading in
       let at = clock_at old.geometry old.cache mid.cache old.desk (ap (λ (s : Store). s.cache) clocked) in
       let told : new.told ≡ with_more (call.entries ++ room.evicted) mid.told =
@@ -129,10 +131,10 @@ module _ (calls : CallsOfNoSession) (id : Id) (ask : Ask) (reading : ℕ) (answe
       let geometry : new.geometry ≡ mid.geometry = room.geometry ∙ ap (λ (s : Store). s.geometry) did in
       subst (λ (g : Geometry). BothTold (IsStep AreOfNoStep g id ask reading answer) old.told new.told) (ap (λ (s : Store). s.geometry) clocked)
       (told_behind mid.geometry id ask reading answer AreOfNoStep AreOfNoStep old.told mid.told new.told clock.entries
-      (λ more none. no_steps clock.entries more ((calls old.geometry old.cache old.desk).clock reading).entries none) (ap (λ (s : Store). s.told) clocked)
+      (λ more none. no_steps clock.entries more ((calls old.geometry old.cache old.desk).clock reading) none) (ap (λ (s : Store). s.told) clocked)
       (told_step mid.geometry id ask reading answer AreOfNoStep mid.told new.told (call.entries ++ room.evicted) new.cache told
       (subst (λ (g : Geometry). IsToldRun g new.cache new.told) geometry after)
-      (λ h is legal. done_step notes mid.geometry h mid.cache mid.desk (run h is) at same room.evicted (record { each = room.each; few = room.few }) legal)))
+      (λ h is legal. done_step notes mid.geometry h mid.cache mid.desk (runs h is) at same room.evicted (record { each = room.each; few = room.few }) legal)))
 
   -- the same where the step had no memory
   pub clocked_none : (old mid new : Store) → Becomes old (clock_call old.cache old.desk reading) mid → Stays mid new → answer ≡ told.NoMemory
@@ -141,7 +143,7 @@ module _ (calls : CallsOfNoSession) (id : Id) (ask : Ask) (reading : ℕ) (answe
       let clock = clock_call old.cache old.desk reading in
       subst (λ (g : Geometry). BothTold (IsStep AreOfNoStep g id ask reading answer) old.told new.told) (ap (λ (s : Store). s.geometry) clocked)
       (told_behind mid.geometry id ask reading answer AreOfNoStep AreOfNoStep old.told mid.told new.told clock.entries
-      (λ more empty. no_steps clock.entries more ((calls old.geometry old.cache old.desk).clock reading).entries empty) (ap (λ (s : Store). s.told) clocked)
+      (λ more empty. no_steps clock.entries more ((calls old.geometry old.cache old.desk).clock reading) empty) (ap (λ (s : Store). s.told) clocked)
       (none_told mid.geometry id ask reading answer mid.told new.told new.cache none (ap (λ (s : Store). s.told) stays)
       (subst (λ (g : Geometry). IsToldRun g new.cache new.told) (ap (λ (s : Store). s.geometry) stays) after)))
 

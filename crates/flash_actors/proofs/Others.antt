@@ -8,10 +8,10 @@ use Rattle.flash_names.specs.declared.geometry.Geometry.{Geometry}
 use Rattle.flash_entry.specs.declared.ask.Ask.{Ask}
 use Rattle.flash_entry.specs.declared.entry.Entry.{Entry}
 use Rattle.flash_machine.specs.NewSteps.{IsNew}
-use Rattle.flash_core.proofs.News.{all_behind}
+use Rattle.flash_calls.proofs.Quiet.{all_behind}
 use Rattle.flash_answers.specs.Laws.{OutcomesStay, NumbersStayNew}
 use Rattle.flash_answers.specs.Outcomes.{outcomes}
-use Rattle.flash_answers.specs.Records.{entry_ask, IsOf, IsOneOf, IsOfOther, AreOfOthers, AreOfNoStep, Keeps}
+use Rattle.flash_answers.specs.Records.{entry_ask, IsOf, AreOf, IsOneOf, IsOfOther, AreOfOthers, AreOfNoStep, Keeps}
 
 -- what is true of each element is true of each, if it follows
 pub all_map : {A : Type 0} (P Q : A → Type 0) → ((x : A) → P x → Q x) → (xs : List A) → AllByRecursion P xs → AllByRecursion Q xs
@@ -21,6 +21,10 @@ all_map P Q follows (x ∷ xs) all = (follows x all.0, all_map P Q follows xs al
 -- entries of no step are of others
 pub none_are_others : (pass : ℕ) (es : List Entry) → AreOfNoStep es → AreOfOthers pass es
 none_are_others pass es none = all_map (λ e. entry_ask e ≡ None) (IsOfOther pass) (λ e is step asked. absurd (cc (is, asked))) es none
+
+-- and record no step but this one
+pub none_are_of : (id : Id) (ask : Ask) (es : List Entry) → AreOfNoStep es → AreOf id ask es
+none_are_of id ask es none = all_map (λ e. entry_ask e ≡ None) (IsOf id ask) (λ e is step asked. absurd (cc (is, asked))) es none
 
 -- one entry is of its own step alone
 pub of_one : (e : Entry) (step : Id × Ask) → entry_ask e ≡ Some step → IsOf step.0 step.1 e

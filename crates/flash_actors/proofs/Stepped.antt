@@ -11,13 +11,14 @@ use Rattle.flash_entry.specs.declared.entry.Entry.TheVariants as entries
 use Rattle.flash_entry.specs.declared.entry.DropCause.TheVariants as causes
 use Rattle.flash_entry.specs.declared.found.Told.{Told}
 use Rattle.flash_machine.specs.NewSteps.{IsNew}
-use Rattle.flash_core.proofs.News.{all_behind}
+use Rattle.flash_calls.proofs.Quiet.{all_behind}
 use Rattle.flash_answers.specs.Outcomes.{outcome, outcomes}
 use Rattle.flash_answers.specs.Records.{entry_ask, IsOf, AreOf, IsOneOf, AreOfOthers, AreOfNoStep, Keeps}
 use Rattle.flash_actors.specs.Laws.{SessionLaws}
 use Rattle.flash_actors.specs.Stepping.{IsNoted, IsEviction, IsStep}
 use Rattle.flash_actors.specs.Timing.{AreRead}
-use Rattle.flash_actors.proofs.Others.{all_map, none_are_others, of_one, others_leave_outcomes, others_leave_numbers, others_leave_asks}
+use Rattle.flash_actors.proofs.OwnReads.{reads_unasked}
+use Rattle.flash_actors.proofs.Others.{all_map, none_are_others, none_are_of, of_one, others_leave_outcomes, others_leave_numbers, others_leave_asks}
 use Rattle.flash_actors.proofs.OnTime.{read_others, read_none, read_own}
 use Rattle.flash_actors.proofs.Told.{told_by}
 
@@ -26,11 +27,10 @@ evicts_none : (e : Entry) → IsEviction e → entry_ask e ≡ None
 evicts_none (entries.Dropped key causes.Evict) is = refl
 evicts_none _ is = absurd is
 
--- a step's own entry is of that step alone
+-- a step's own entry, and what is behind it, are of that step alone
 own_of : (g : Geometry) (id : Id) (ask : Ask) (reading : ℕ) (told : Told) (front own : List Entry) → IsNoted g id ask reading told front own → AreOf id ask own
 own_of g id ask reading told front [] noted = tt
-own_of g id ask reading told front (e ∷ []) noted = (of_one e (id, ask) noted.asked, tt)
-own_of g id ask reading told front (e ∷ f ∷ es) noted = absurd noted
+own_of g id ask reading told front (e ∷ behind) noted = (of_one e (id, ask) noted.0.asked, none_are_of id ask behind (reads_unasked id behind noted.1))
 
 -- the number after a step's is new
 pub step_new : (laws : SessionLaws) (g : Geometry) (id : Id) (ask : Ask) (reading : ℕ) (told : Told) (h j : List Entry) → IsStep (AreOfOthers id.pass) g id ask reading told h j → IsNew h id
@@ -49,8 +49,7 @@ module _ (laws : SessionLaws) (g : Geometry) (n last : ℕ) (ask : Ask) (reading
 
   own_told : (front own : List Entry) → IsNoted g id ask reading told front own → IsNew front id → outcome g n (last + 1) (front ++ own) ≡ told
   own_told front [] noted new = ap (outcome g n (last + 1)) (append-nil front) ∙ laws.none g front id new ∙ sym noted
-  own_told front (e ∷ []) noted new = told_by g id front e told new noted.outcome
-  own_told front (e ∷ f ∷ es) noted new = absurd noted
+  own_told front (e ∷ behind) noted new = told_by g id front e behind told new noted.0.outcome
 
   own_keeps : (steps : List Ask) (own : List Entry) → AreOf id ask own → slice_get steps last ≡ Some ask → Keeps steps n own
   own_keeps steps own of is =
@@ -59,8 +58,11 @@ module _ (laws : SessionLaws) (g : Geometry) (n last : ℕ) (ask : Ask) (reading
 
   own_read : (k : ℕ) (all : List ℕ) (front own : List Entry) → IsNoted g id ask reading told front own → AreRead g n last k front all → AreRead g n (last + 1) k (front ++ own) (all ++ reading ∷ [])
   own_read k all front [] noted read = subst (λ (j : List Entry). AreRead g n (last + 1) k j (all ++ reading ∷ [])) (sym (append-nil front)) (read_none g n k last reading all front read)
-  own_read k all front (e ∷ []) noted read = read_own g n k last reading all front ask e noted.asked noted.moment read
-  own_read k all front (e ∷ f ∷ es) noted read = absurd noted
+  own_read k all front (e ∷ behind) noted read =
+      let now = all ++ reading ∷ [] in
+      subst (λ (j : List Entry). AreRead g n (last + 1) k j now) (append_assoc front (e ∷ []) behind)
+      (read_others g n k (last + 1) now (front ++ e ∷ []) behind (none_are_others n behind (reads_unasked id behind noted.1))
+      (read_own g n k last reading all front ask e noted.0.asked noted.0.moment read))
 
   module _ (h j : List Entry) (step : IsStep (AreOfOthers n) g id ask reading told h j) where
     abbrev front : List Entry

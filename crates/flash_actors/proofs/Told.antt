@@ -50,10 +50,10 @@ module _ (g : Geometry) (id : Id) where
       ap (λ (o : Option Told). option_or o (outcome_from g (h ++ e ∷ []) (next g h c e) id es)) (entry_none h c e earlier.0)
       ∙ none_from (h ++ e ∷ []) (next g h c e) es earlier.1
 
-  -- a step whose number is new has the outcome that its entry gives it
-  pub told_by : (h : List Entry) (e : Entry) (told : Told) → IsNew h id → entry_outcome h (cache_of g h) id e ≡ Some told → outcome g id.pass id.seq (h ++ e ∷ []) ≡ told
-  told_by h e told new is =
+  -- a step whose number is new has the outcome that its entry gives it, whatever is behind it
+  pub told_by : (h : List Entry) (e : Entry) (behind : List Entry) (told : Told) → IsNew h id → entry_outcome h (cache_of g h) id e ≡ Some told → outcome g id.pass id.seq (h ++ e ∷ behind) ≡ told
+  told_by h e behind told new is =
       ap or_no_memory
-      (outcome_from-append [] first_cache h (e ∷ [])
-      ∙ ap (λ (o : Option Told). option_or o (outcome_from g h (cache_of g h) id (e ∷ []))) (none_from [] first_cache h new.seq)
-      ∙ ap (λ (o : Option Told). option_or o None) is)
+      (outcome_from-append [] first_cache h (e ∷ behind)
+      ∙ ap (λ (o : Option Told). option_or o (outcome_from g h (cache_of g h) id (e ∷ behind))) (none_from [] first_cache h new.seq)
+      ∙ ap (λ (o : Option Told). option_or o (outcome_from g (h ++ e ∷ []) (next g h (cache_of g h) e) id behind)) is)

@@ -18,9 +18,11 @@ use Rattle.flash_machine.specs.Legal.{Legal}
 use Rattle.flash_machine.specs.NewSteps.{IsNew, IsEarlier, step_id}
 use Rattle.flash_core.specs.SharedStore.{step_pair, step_pairs, told_pairs}
 use Rattle.flash_core.specs.Sound.{IsNewTold, IsToldRun}
-use Rattle.flash_core.proofs.News.{all_behind, new_behind}
+use Rattle.flash_calls.proofs.Quiet.{all_behind}
+use Rattle.flash_calls.proofs.Sweeping.{new_behind}
 use Rattle.flash_answers.specs.Records.{done_ask, entry_ask, AreOfNoStep, IsOfOther, AreOfOthers}
 use Rattle.flash_actors.specs.Stepping.{BothTold, IsNoted, IsStep}
+use Rattle.flash_actors.proofs.OwnReads.{reads_unasked}
 use Rattle.flash_actors.proofs.Evicting.{evictions_unasked}
 use Rattle.flash_actors.proofs.Locked.{step_behind}
 
@@ -108,10 +110,10 @@ taken_new (Some h) (Some j) id begins same new =
 module _ (g : Geometry) (id : Id) (ask : Ask) (reading : ℕ) (answer : Told) where
   without_own : (front own : List Entry) → IsNoted g id ask reading answer front own → without id.pass (step_pairs own) ≡ []
   without_own front [] noted = refl
-  without_own front (e ∷ []) noted =
-      ap (λ (o : Option (ℕ × Entry)). without id.pass (cons_option o [])) (asked_pair e id ask noted.asked)
+  without_own front (e ∷ behind) noted =
+      ap (λ (o : Option (ℕ × Entry)). without id.pass (cons_option o (step_pairs behind))) (asked_pair e id ask noted.0.asked)
+      ∙ ap (λ (l : List (ℕ × Entry)). without id.pass ((id.pass, e) ∷ l)) (no_pairs behind (reads_unasked id behind noted.1))
       ∙ ap (λ b. cond (not b) ((id.pass, e) ∷ []) []) (eq-eqb id.pass id.pass refl)
-  without_own front (e ∷ f ∷ es) noted = absurd noted
 
   -- a step changes nothing of other passes
   step_without : (h j : List Entry) → IsStep AreOfNoStep g id ask reading answer h j → without id.pass (step_pairs j) ≡ without id.pass (step_pairs h)

@@ -4,8 +4,8 @@ use Rattle.flash_names.specs.Told.{with_more}
 use Rattle.flash_names.specs.declared.geometry.Geometry.{Geometry}
 use Rattle.flash_entry.specs.declared.entry.Entry.{Entry}
 use Rattle.flash_machine.specs.Cache.{Cache}
-use Rattle.flash_core.specs.Store.{Desk, Call, Store}
-use Rattle.flash_core.specs.Calls.{room_call, reap_call, juggle_call}
+use Rattle.flash_calls.specs.Rooms.{room_call, reap_call, juggle_call}
+use Rattle.flash_calls.specs.Store.{Desk, Call, Store}
 use Rattle.flash_core.specs.SharedStore.{Face, told_of, face_of}
 use Rattle.flash_turn.specs.declared.pass.Pass.{Pass}
 use Rattle.flash_turn.specs.declared.turn.Turn.{Turn}

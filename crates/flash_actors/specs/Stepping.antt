@@ -13,7 +13,7 @@ use Rattle.flash_entry.specs.declared.found.Told.TheVariants as tolds
 use Rattle.flash_machine.specs.Legal.{Legal}
 use Rattle.flash_machine.specs.Moments.{last_moment}
 use Rattle.flash_machine.specs.Steps.{cache_of}
-use Rattle.flash_core.specs.Store.{Store}
+use Rattle.flash_calls.specs.Store.{Store}
 use Rattle.flash_answers.specs.Outcomes.{entry_outcome}
 use Rattle.flash_answers.specs.Records.{entry_ask}
 
@@ -32,11 +32,19 @@ pub record IsEntryOf (g : Geometry) (id : Id) (ask : Ask) (reading : ℕ) (told 
   pub outcome : entry_outcome front (cache_of g front) id e ≡ Some told
   pub moment : min reading last_moment ≤ (cache_of g front).now
 
--- the step's own entry, or none where it had no memory
+-- an entry of the read of the step's own value: it came from a write buffer, and the lookup was closed
+abbrev pub IsOwnRead : Id → Entry → Type 0
+IsOwnRead id (entries.FromBuffer other place) = other ≡ id
+IsOwnRead id (entries.Closed other close) = other ≡ id
+IsOwnRead id _ = ⊥
+
+abbrev pub AreOwnReads : Id → List Entry → Type 0
+AreOwnReads id es = AllByRecursion (IsOwnRead id) es
+
+-- the step's own entry, with those of its own read behind it, or none where it had no memory
 abbrev pub IsNoted : Geometry → Id → Ask → ℕ → Told → List Entry → List Entry → Type 0
 IsNoted g id ask reading told front [] = told ≡ tolds.NoMemory
-IsNoted g id ask reading told front (e ∷ []) = IsEntryOf g id ask reading told front e
-IsNoted g id ask reading told front (e ∷ f ∷ es) = ⊥
+IsNoted g id ask reading told front (e ∷ behind) = IsEntryOf g id ask reading told front e × AreOwnReads id behind
 
 -- an entry of an item that was evicted
 abbrev pub IsEviction : Entry → Type 0
@@ -59,8 +67,8 @@ pub record HasEvictedUpTo (most : ℕ) (old new : Store) : Type 0 where
 abbrev pub HasEvicted : Store → Store → Type 0
 HasEvicted old new = HasEvictedUpTo 8 old new
 
--- after the journal come entries of this kind, then the step's own, if it has one, and then those of items that were
--- evicted to make room; and all of it is a run
+-- after the journal come entries of this kind, then the step's own, if it has one, with those of its own read behind it,
+-- and then those of items that were evicted to make room; and all of it is a run
 pub record IsStep (AreMore : List Entry → Type 0) (g : Geometry) (id : Id) (ask : Ask) (reading : ℕ) (told : Told)
     (before after : List Entry) : Type 0 where
   pub more : List Entry

@@ -24,9 +24,9 @@ pub enum KeeperStep {
     NoMemory,
 }
 
-/// The keeper's turn of the lock: it drops an item that is dead, moves a key between the three lists, and evicts an item
-/// where they take more than the memory; each where there is one. It is never out of memory over a journal of a type
-/// that is always ready.
+/// The keeper's turn of the lock: it drops an item that is dead, or whose page has ended, moves a key between the three
+/// lists, and evicts an item where they take more than the memory; each where there is one. It is never out of memory
+/// over a journal of a type that is always ready.
 pub fn keeper_turn<J: Journal, R: Wait>(
     rt: &R,
     store: &Turn<Core<J>>,

@@ -5,7 +5,7 @@ use Rattle.std.specs.Option.{ForSome}
 use Rattle.flash_names.specs.declared.place.Id.{Id}
 use Rattle.flash_entry.specs.declared.ask.Ask.{Ask}
 use Rattle.flash_entry.specs.declared.entry.Entry.{Entry}
-use Rattle.flash_core.proofs.News.{all_behind}
+use Rattle.flash_calls.proofs.Quiet.{all_behind}
 use Rattle.flash_answers.specs.Laws.{AsksAreKept}
 use Rattle.flash_answers.specs.Records.{entry_ask, IsOf, AreOf, AreOfNoStep, IsOneOf, Keeps}
 use Rattle.flash_answers.proofs.Lists.{all_map, get-front, get-seam}

@@ -4,7 +4,7 @@ mod Staying
 mod Recorded
 mod Noting
 mod Telling
-mod Leaving
+mod Moments
 mod Numbering
 mod Asking
 mod GoingOn

@@ -6,7 +6,7 @@ use Rattle.flash_entry.specs.declared.ask.Ask.TheVariants as asks
 use Rattle.flash_entry.specs.declared.entry.Entry.{Entry}
 use Rattle.flash_entry.specs.declared.entry.Entry.TheVariants as entries
 use Rattle.flash_machine.specs.NewSteps.{IsNew, IsEarlier, step_id}
-use Rattle.flash_core.proofs.News.{new_behind}
+use Rattle.flash_calls.proofs.Sweeping.{new_behind}
 use Rattle.flash_answers.specs.Laws.{NumbersStayNew}
 use Rattle.flash_answers.specs.Records.{done_ask, entry_ask, IsOf, AreOf, AreOfNoStep}
 use Rattle.flash_answers.proofs.Lists.{all_map}

@@ -72,10 +72,10 @@ have_next g pass n j told known own seq first within = elim (cases_eq seq (n + 1
 
 -- the answer of the next step is added to those before it
 pub is_added : EachAskIsTold → EachAnswerIsAdded
-is_added is_told g c h desk pass n ask is here new =
+is_added is_told g c h desk pass n ask is new =
     let id : Id = record { pass = pass; seq = n + 1 } in
     let call = ask_call g c desk id ask in
-    let own = is_told g c h desk id ask is here new in
+    let own = is_told g c h desk id ask is new in
     let before = others_stay g pass h call.entries n id ask (records_itself g c desk id ask) (λ same. omega arith) in (
       in_order g pass (h ++ call.entries) n
           ∙ ap (λ (told : List Told). told ++ outcome g pass (n + 1) (h ++ call.entries) ∷ []) before

@@ -7,31 +7,28 @@ use Rattle.flash_entry.specs.declared.entry.Entry.{Entry}
 use Rattle.flash_entry.specs.declared.found.Told.{Told}
 use Rattle.flash_entry.specs.declared.found.Told.TheVariants as told
 use Rattle.flash_machine.specs.Cache.{Cache, first_cache}
-use Rattle.flash_machine.specs.Legal.{Legal}
 use Rattle.flash_machine.specs.Moments.{last_moment}
 use Rattle.flash_machine.specs.NewSteps.{IsNew}
 use Rattle.flash_machine.specs.Steps.{cache_of}
-use Rattle.flash_core.specs.Store.{Desk, Call}
-use Rattle.flash_core.specs.Calls.{clock_call, room_call, reap_call, juggle_call}
-use Rattle.flash_core.specs.Laws.{IsRunning, LeavesARun}
-use Rattle.flash_core.specs.Sound.{IsRun}
+use Rattle.flash_calls.specs.Calls.{clock_call}
+use Rattle.flash_calls.specs.Rooms.{room_call, reap_call, juggle_call}
+use Rattle.flash_calls.specs.Running.{IsRunning, LeavesARun}
+use Rattle.flash_calls.specs.Store.{Desk, Call}
 use Rattle.flash_answers.specs.AskCalls.{ask_call}
-use Rattle.flash_answers.specs.InMemory.{AreHere}
 use Rattle.flash_answers.specs.Outcomes.{entry_outcome, outcome_from, outcome, outcomes, HasEntry, HaveEntries}
 use Rattle.flash_answers.specs.Records.{entry_ask, AreOf, AreOfNoStep, Keeps}
 
--- a run goes on by any step, where its number is new and all items are in memory; and all are in memory after it
+-- a run goes on by any step, where its number is new
 abbrev pub EachAskGoesOn : Type 0
 EachAskGoesOn =
     (g : Geometry) (c : Cache) (h : List Entry) (desk : Desk) (id : Id) (ask : Ask) → IsRunning g h c desk
-    → AreHere c.items → IsNew h id
-    → LeavesARun g h (ask_call g c desk id ask) × AreHere (ask_call g c desk id ask).cache.items
+    → IsNew h id → LeavesARun g h (ask_call g c desk id ask)
 
 -- then the journal gives the step what it was told
 abbrev pub EachAskIsTold : Type 0
 EachAskIsTold =
     (g : Geometry) (c : Cache) (h : List Entry) (desk : Desk) (id : Id) (ask : Ask) → IsRunning g h c desk
-    → AreHere c.items → IsNew h id
+    → IsNew h id
     → outcome_from g [] first_cache id (h ++ (ask_call g c desk id ask).entries)
     ≡ Some (ask_call g c desk id ask).answer
 
@@ -40,7 +37,7 @@ EachAskIsTold =
 abbrev pub EachAnswerIsAdded : Type 0
 EachAnswerIsAdded =
     (g : Geometry) (c : Cache) (h : List Entry) (desk : Desk) (pass n : ℕ) (ask : Ask) → IsRunning g h c desk
-    → AreHere c.items → IsNew h (record { pass = pass; seq = n + 1 })
+    → IsNew h (record { pass = pass; seq = n + 1 })
     → let call = ask_call g c desk (record { pass = pass; seq = n + 1 }) ask in
     (outcomes g pass (h ++ call.entries) (n + 1) ≡ outcomes g pass h n ++ call.answer ∷ [])
     × (HaveEntries g pass h n → HaveEntries g pass (h ++ call.entries) (n + 1))
@@ -50,19 +47,22 @@ abbrev pub EachAskRecordsItself : Type 0
 EachAskRecordsItself =
     (g : Geometry) (c : Cache) (desk : Desk) (id : Id) (ask : Ask) → AreOf id ask (ask_call g c desk id ask).entries
 
--- what a step notes: entries of no step, which leave the moment, and then its own with what was asked; where the journal
--- with them is a run, its own tells what the step was told, whether items are in memory or not
+-- what a step notes: entries of no step, which leave the moment, then its own with what was asked, which tells what the
+-- step was told, and entries of no step behind it
 pub record NotesItself (g : Geometry) (c : Cache) (h : List Entry) (id : Id) (ask : Ask) (call : Call Told) : Type 0 where
   pub more : List Entry
   pub own : Entry
-  pub whole : call.entries ≡ more ++ own ∷ []
+  pub behind : List Entry
+  pub whole : call.entries ≡ more ++ own ∷ behind
   pub others : AreOfNoStep more
+  pub rest : AreOfNoStep behind
   pub asked : entry_ask own ≡ Some (id, ask)
-  pub told : Legal g (h ++ call.entries) → entry_outcome (h ++ more) (cache_of g (h ++ more)) id own ≡ Some call.answer
+  pub told : entry_outcome (h ++ more) (cache_of g (h ++ more)) id own ≡ Some call.answer
   pub moment : (cache_of g (h ++ more)).now ≡ c.now
 
 abbrev pub EachAskNotesItself : Type 0
-EachAskNotesItself = (g : Geometry) (c : Cache) (h : List Entry) (desk : Desk) (id : Id) (ask : Ask) → IsRun g c h
+EachAskNotesItself =
+    (g : Geometry) (c : Cache) (h : List Entry) (desk : Desk) (id : Id) (ask : Ask) → IsRunning g h c desk
     → NotesItself g c h id ask (ask_call g c desk id ask)
 
 -- no step changes the moment
@@ -119,17 +119,13 @@ pub record LeaveAsks (pass : ℕ) (steps : List Ask) (h es : List Entry) : Type 
 abbrev pub AsksAreKept : Type 0
 AsksAreKept = (pass : ℕ) (steps : List Ask) (h es : List Entry) → LeaveAsks pass steps h es
 
--- a call that notes no step, and leaves all items in memory
-pub record IsOfNoSession {A : Type 0} (c : Cache) (call : Call A) : Type 0 where
-  pub entries : AreOfNoStep call.entries
-  pub here : AreHere c.items → AreHere call.cache.items
-
--- the calls that no session asks for; of these a reading of the clock alone changes the moment, to the greater of both
+-- the calls that no session asks for note no step; a reading of the clock alone changes the moment, to the greater of
+-- both
 pub record AreOfNoSession (g : Geometry) (c : Cache) (desk : Desk) : Type 0 where
-  pub clock : (reading : ℕ) → IsOfNoSession c (clock_call c desk reading)
-  pub room : IsOfNoSession c (room_call g c desk)
-  pub reap : IsOfNoSession c (reap_call c desk)
-  pub juggle : IsOfNoSession c (juggle_call g c desk)
+  pub clock : (reading : ℕ) → AreOfNoStep (clock_call c desk reading).entries
+  pub room : AreOfNoStep (room_call g c desk).entries
+  pub reap : AreOfNoStep (reap_call c desk).entries
+  pub juggle : AreOfNoStep (juggle_call g c desk).entries
   pub moment : (reading : ℕ) → (clock_call c desk reading).cache.now ≡ max c.now (min reading last_moment)
   pub room_moment : (room_call g c desk).cache.now ≡ c.now
   pub reap_moment : (reap_call c desk).cache.now ≡ c.now
@@ -137,7 +133,3 @@ pub record AreOfNoSession (g : Geometry) (c : Cache) (desk : Desk) : Type 0 wher
 
 abbrev pub CallsOfNoSession : Type 0
 CallsOfNoSession = (g : Geometry) (c : Cache) (desk : Desk) → AreOfNoSession g c desk
-
--- before the first entry there is no item, so all are in memory
-abbrev pub NoItemsAreHere : Type 0
-NoItemsAreHere = AreHere first_cache.items

@@ -1,6 +1,5 @@
 pub mod AskCalls
 pub mod Outcomes
 pub mod Records
-pub mod InMemory
 pub mod Laws
 pub mod Examples

@@ -1,9 +1,10 @@
 ghost use Rattle.std.specs.Prelude.{◌≡◌, false, IfOk, OnOk, OnErr, IsOk, IsTrue};
 ghost use Rattle.flash_core.specs.Sound.{IsNewTold};
-ghost use Rattle.flash_core.specs.Store.{Becomes, Stays};
+ghost use Rattle.flash_calls.specs.Store.{Becomes, Stays};
 ghost use Rattle.flash_answers.specs.AskCalls.{ask_call, takes_memory, told_found};
 
-use flash_core::{Core, Found};
+use flash_calls::Found;
+use flash_core::Core;
 use flash_entry::{Ask, Journal, LookAnswer, Told};
 use flash_names::Id;
 use std::alloc::{AllocError, Global};
@@ -46,7 +47,7 @@ fn told_of(found: Found) -> Told
     ensures { result ≡ told_found found }
 {
     match found {
-        Found::Miss => Told::Found(LookAnswer::Miss),
+        Found::Miss | Found::Away(_) => Told::Found(LookAnswer::Miss),
         Found::Head(head) => Told::Found(LookAnswer::Head(head)),
         Found::Here(hit) => Told::Found(LookAnswer::Hit(hit)),
     }

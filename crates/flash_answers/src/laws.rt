@@ -2,15 +2,15 @@
 // is empty, and does nothing.
 ghost use Rattle.flash_answers.specs.Laws.{EachAskGoesOn, EachAskIsTold, EachAnswerIsAdded, EachAskRecordsItself, EachAskNotesItself};
 ghost use Rattle.flash_answers.specs.Laws.{AskLeavesTheMoment, OutcomesAreInOrder, OutcomesStay, NumbersStayNew};
-ghost use Rattle.flash_answers.specs.Laws.{ANewStepHasNoEntry, AsksAreKept, CallsOfNoSession, NoItemsAreHere};
+ghost use Rattle.flash_answers.specs.Laws.{ANewStepHasNoEntry, AsksAreKept, CallsOfNoSession};
 
-use flash_core::{
-    each_delete_goes_on, each_flush_goes_on, each_lookup_goes_on, each_store_goes_on,
-    each_sum_goes_on, each_tally_goes_on, each_touch_goes_on,
+use flash_calls::{
+    each_delete_goes_on, each_flush_goes_on, each_lookup_goes_on, each_lookup_tells,
+    each_store_goes_on, each_sum_goes_on, each_tally_goes_on, each_touch_goes_on,
 };
 
-/// A run of the one-thread cache goes on by any step, and makes the cache that it leaves, where the step's number is
-/// new and all items are in memory; and all are in memory after it.
+/// A run of the one-thread cache goes on by any step, and the store has what it keeps of it, where the step's number is
+/// new.
 pub fn each_ask_goes_on()
     ensures { EachAskGoesOn }
 {
@@ -23,10 +23,13 @@ pub fn each_ask_goes_on()
     each_tally_goes_on();
 }
 
-/// Then the journal gives the step what the session is told.
+/// Then the journal gives the step what the session is told: a hit has the value that the key held, from memory or from
+/// a write buffer.
 pub fn each_ask_is_told()
     ensures { EachAskIsTold }
-{}
+{
+    each_lookup_tells();
+}
 
 /// The answer of a pass's next step stands after those of its steps before.
 pub fn each_answer_is_added()
@@ -40,11 +43,13 @@ pub fn each_ask_records_itself()
     ensures { EachAskRecordsItself }
 {}
 
-/// What a step notes is entries of no step and then its own, which tells what the step was told where the journal with
-/// them is a run, whether all items are in memory or not.
+/// What a step notes is entries of no step, its own, which tells what the step was told, and entries of no step behind
+/// it.
 pub fn each_ask_notes_itself()
     ensures { EachAskNotesItself }
-{}
+{
+    each_lookup_tells();
+}
 
 /// No step changes the moment.
 pub fn an_ask_leaves_the_moment()
@@ -79,13 +84,7 @@ pub fn asks_are_kept()
     ensures { AsksAreKept }
 {}
 
-/// A reading of the clock and the store's upkeep record no step, and leave all items in memory; the reading alone
-/// changes the moment.
+/// A reading of the clock and the store's upkeep record no step; the reading alone changes the moment.
 pub fn calls_of_no_session_record_no_step()
     ensures { CallsOfNoSession }
-{}
-
-/// All items of the cache before the first entry are in memory: there are none.
-pub fn no_items_are_here()
-    ensures { NoItemsAreHere }
 {}

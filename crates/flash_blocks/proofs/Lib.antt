@@ -1,8 +1,11 @@
 pub mod AddedLemmas
 pub mod AppendLemmas
+pub mod CallLemmas
 pub mod HeldLemmas
 pub mod KeptLemmas
+pub mod OrderLemmas
 pub mod PageLemmas
+pub mod PutLemmas
 pub mod RoomLemmas
 pub mod SoundLemmas
 pub mod StepLemmas

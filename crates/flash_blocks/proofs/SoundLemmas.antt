@@ -143,7 +143,7 @@ with_page t Compact pages buffers page sizes own others blocks = record {
 }
 
 -- a number that is put at the end of the queue
-sealed_push : (queue : List ℕ) (n m : ℕ) → nat_eq n m ≡ false → list_any (λ k. nat_eq k m) queue ≡ false → list_any (λ k. nat_eq k m) (queue ++ n ∷ []) ≡ false
+pub sealed_push : (queue : List ℕ) (n m : ℕ) → nat_eq n m ≡ false → list_any (λ k. nat_eq k m) queue ≡ false → list_any (λ k. nat_eq k m) (queue ++ n ∷ []) ≡ false
 sealed_push [] n m differ unsealed = rw differ refl
 sealed_push (k ∷ rest) n m differ unsealed =
     let parts = or_parts (nat_eq k m) (list_any (λ x. nat_eq x m) rest) unsealed in

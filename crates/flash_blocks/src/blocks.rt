@@ -4,6 +4,7 @@ ghost use Rattle.flash_names.specs.declared.geometry.Geometry.{Geometry};
 ghost use Rattle.flash_names.specs.Geometry.{Passes};
 ghost use Rattle.flash_pages.specs.PageTable.{free_count, IsAt};
 ghost use Rattle.flash_pages.specs.States.{is_full};
+ghost use Rattle.flash_pages.specs.Labels.{page_label as label_of_page};
 ghost use Rattle.flash_pages.specs.Freeable.{freeable};
 ghost use Rattle.flash_pages.specs.Opening.{next_opening};
 ghost use Rattle.flash_pages.specs.Victims.{victim_evict};
@@ -144,6 +145,13 @@ impl Blocks {
         ensures { result ≡ has_ended_in self.now.pages label }
     {
         self.pages.has_ended(label)
+    }
+
+    /// The label that the page has now; none where it is free, or where there is no such page.
+    pub fn page_label(&self, page: u32) -> Option<Label>
+        ensures { result ≡ label_of_page self.now.pages page }
+    {
+        self.pages.page_label(page)
     }
 
     /// The number of pages that are free.

@@ -7,18 +7,25 @@
 //! `take_live` counts a record as live no longer; `pin`, `unpin`, `end`, `free` and the calls that name a page are those
 //! of the pages.
 //!
-//! It is proved what each call answers and the whole table after it. What the calls of pages and buffers ask for follows
-//! from what the table keeps: an open block's buffer is open, the next block is in no buffer, and a page's live records
-//! have no more bytes than were put.
+//! It is proved what each call answers and the whole table after it. What `put` and `seal` ask of pages and buffers
+//! follows from what the table keeps: an open block's buffer is open, the next block is in no buffer, and a page's live
+//! records have no more bytes than were put. What the other calls ask for is theirs: a place or a label that fits the
+//! table, or the job that is out.
+//!
+//! `laws.rt` says of the table what a caller rests on: it stays in order through each call that frees no buffer, a record
+//! that was put is held at its place and counted there, it stays until its buffer is freed, and it is what is read.
 #![tactic(auto)]
 
 mod answers;
 mod blocks;
-mod held;
+mod laws;
 mod open_page;
 mod open_pages;
 
 pub use answers::{Full, Put, Room};
 pub use blocks::Blocks;
-pub use held::keeps_held;
+pub use laws::{
+    each_call_keeps_one, each_call_keeps_order, each_call_keeps_sizes, each_opening_keeps_order,
+    each_put_is_held, each_record_is_read, each_record_stays, the_first_is_in_order,
+};
 pub use open_page::OpenPage;

@@ -22,7 +22,8 @@ impl OpenPages {
 
     /// The bucket's open page.
     pub fn of(&self, bucket: Bucket) -> Option<OpenPage>
-        ensures { (t : BlockTable) → result ≡ open_page (record t { default = self.now.default; compact = self.now.compact }) bucket }
+        ensures { (t : BlockTable) → result
+            ≡ open_page (record t { default = self.now.default; compact = self.now.compact }) bucket }
     {
         match bucket {
             Bucket::Default => self.default,

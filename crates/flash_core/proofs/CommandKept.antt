@@ -21,12 +21,12 @@ use Rattle.flash_machine.specs.Looking.{deadline_after}
 use Rattle.flash_machine.specs.Deleting.{compare_fails, delete_step, without_item}
 use Rattle.flash_machine.specs.Summing.{number_in, changed_number, number_item, number_stored, sum_created, sum_changed, sum_step}
 use Rattle.flash_machine.specs.Touching.{touch_step, flush_at, flush_next}
-use Rattle.flash_core.specs.CommandCalls.{delete_call, sum_call, touch_call}
+use Rattle.flash_calls.specs.Calls.{delete_call, sum_call, touch_call}
+use Rattle.flash_calls.specs.Store.{Desk}
+use Rattle.flash_calls.specs.Sweeps.{sweep}
 use Rattle.flash_core.specs.Counting.{MaySet}
 use Rattle.flash_core.specs.Items.{HasDeadline, IsKey, IsKept}
-use Rattle.flash_core.specs.Store.{Desk}
-use Rattle.flash_core.specs.Sweeps.{sweep}
-use Rattle.flash_core.proofs.Keeping.{kept-inserted, apart-inserted, alone_above, alone_own}
+use Rattle.flash_core.proofs.Keeping.{kept-inserted}
 use Rattle.flash_core.proofs.Kept.{Keeps, without, sweep_keeps, moment_swept}
 
 -- a number that was read is below 2^64
@@ -70,7 +70,6 @@ module _ (item_max : ℕ) (c : Cache) (keeps : Keeps item_max c) where
         number = omega arith;
         deadline = within;
         size = omega (arith, digits);
-        here = refl;
       }
 
   stored_by : (answer : Summed → Sum) (key : List ℕ) (flags : ℕ) (until : Option ℕ) (number : ℕ) (last : Bool) → IsKey key → HasDeadline until → number < 2 ^ 64 → nat_le last_number c.last_cas ≡ last
@@ -78,7 +77,6 @@ module _ (item_max : ℕ) (c : Cache) (keeps : Keeps item_max c) where
   stored_by answer key flags until number true named within below is = rw is keeps
   stored_by answer key flags until number false named within below is = rw is (record {
     kept = kept-inserted item_max c.last_cas c.items key (number_item c flags until number) (c.last_cas + 1) (omega arith) (number_kept key flags until number named within below) keeps.kept;
-    apart = apart-inserted c.items key (number_item c flags until number) keeps.apart (alone_above c.items item_max c.last_cas (c.last_cas + 1) key (omega arith) keeps.kept);
     within = keeps.within;
   })
 
@@ -111,18 +109,17 @@ module _ (item_max : ℕ) (c : Cache) (keeps : Keeps item_max c) where
       let touched : Item = record item { deadline = deadline exptime c.now } in
       record {
         kept = kept-inserted item_max c.last_cas c.items key touched c.last_cas (omega arith)
-            (record { named = one.named; some = one.some; number = one.number; deadline = below; size = one.size; here = one.here }) keeps.kept;
-        apart = apart-inserted c.items key touched keeps.apart (alone_own c.items key item there keeps.apart);
+            (record { named = one.named; some = one.some; number = one.number; deadline = below; size = one.size }) keeps.kept;
         within = keeps.within;
       }
 
   -- a flush
   at_by : (moment : ℕ) (reached : Bool) → nat_le moment c.now ≡ reached → Keeps item_max (flush_at c (Some moment))
-  at_by moment true is = rw is (record { kept = keeps.kept; apart = keeps.apart; within = keeps.within })
-  at_by moment false is = rw is (record { kept = keeps.kept; apart = keeps.apart; within = keeps.within })
+  at_by moment true is = rw is (record { kept = keeps.kept; within = keeps.within })
+  at_by moment false is = rw is (record { kept = keeps.kept; within = keeps.within })
 
   flush_by : (moment : Option ℕ) → Keeps item_max (flush_at c moment)
-  flush_by None = record { kept = keeps.kept; apart = keeps.apart; within = keeps.within }
+  flush_by None = record { kept = keeps.kept; within = keeps.within }
   flush_by (Some moment) = at_by moment (nat_le moment c.now) refl
 
   pub flush_keeps : (delay : ℤ) → Keeps item_max (flush_next c delay)

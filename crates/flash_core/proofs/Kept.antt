@@ -16,47 +16,46 @@ use Rattle.flash_entry.specs.declared.entry.DropCause.{DropCause}
 use Rattle.flash_machine.specs.Item.{Item}
 use Rattle.flash_machine.specs.Cache.{Cache}
 use Rattle.flash_machine.specs.Moments.{deadline, last_moment}
-use Rattle.flash_machine.specs.Rising.{AreApart}
 use Rattle.flash_machine.specs.Storing.{mode_fails, compare_refusal, size_refusal, stored_value, stored_item, store_outcome, refusal}
 use Rattle.flash_machine.specs.Looking.{deadline_after, fetched_item, look_next}
-use Rattle.flash_core.specs.Calls.{store_call, look_call, drop_if}
+use Rattle.flash_calls.specs.Calls.{store_call}
+use Rattle.flash_calls.specs.Lookups.{look_call}
+use Rattle.flash_calls.specs.Rooms.{Leaver, drop_if}
+use Rattle.flash_calls.specs.Store.{Desk}
+use Rattle.flash_calls.specs.Sweeps.{sweep_cause, sweep_step, sweep}
 use Rattle.flash_core.specs.Items.{HasDeadline, IsKey, IsKept, AreKept}
-use Rattle.flash_core.specs.Store.{Desk}
-use Rattle.flash_core.specs.Sweeps.{is_expired_at, sweep_step, sweep}
-use Rattle.flash_core.proofs.Keeping.{kept-removed, kept-inserted, apart-removed, apart-inserted, alone_above, alone_own}
+use Rattle.flash_core.proofs.Keeping.{kept-removed, kept-inserted}
 
 -- what a store keeps of a cache's items
 pub record Keeps (item_max : ℕ) (c : Cache) : Type 0 where
   pub kept : AreKept item_max c.last_cas c.items
-  pub apart : AreApart c.items
   pub within : c.now ≤ last_moment
 
 pub without : (item_max : ℕ) (c : Cache) (k : List ℕ) → Keeps item_max c → Keeps item_max (record c { items = finite.remove c.items k })
 without item_max c k keeps = record {
   kept = kept-removed item_max c.last_cas c.items k keeps.kept;
-  apart = apart-removed c.items k keeps.apart;
   within = keeps.within;
 }
 
 module _ (item_max : ℕ) (c : Cache) (desk : Desk) (keeps : Keeps item_max c) where
-  sweep_by : (key : List ℕ) (dead : Bool) → Keeps item_max (sweep_step c desk key dead).cache
-  sweep_by key true = without item_max c key keeps
-  sweep_by key false = keeps
+  sweep_by : (key : List ℕ) (cause : Option DropCause) → Keeps item_max (sweep_step c desk key cause).cache
+  sweep_by key (Some cause) = without item_max c key keeps
+  sweep_by key None = keeps
 
   pub sweep_keeps : (key : List ℕ) → Keeps item_max (sweep c desk key).cache
-  sweep_keeps key = sweep_by key (is_expired_at c (finite.get c.items key))
+  sweep_keeps key = sweep_by key (sweep_cause c desk key)
 
-  pub drop_keeps : (cause : DropCause) (key : Option (List ℕ)) → Keeps item_max (drop_if c desk cause key).cache
-  drop_keeps cause None = keeps
-  drop_keeps cause (Some key) = without item_max c key keeps
+  pub drop_keeps : (leaver : Option Leaver) → Keeps item_max (drop_if c desk leaver).cache
+  drop_keeps None = keeps
+  drop_keeps (Some leaver) = without item_max c leaver.key keeps
 
 -- a sweep leaves the moment and the last CAS number
-moment_by : (c : Cache) (desk : Desk) (key : List ℕ) (dead : Bool) → (sweep_step c desk key dead).cache.now ≡ c.now
-moment_by c desk key true = refl
-moment_by c desk key false = refl
+moment_by : (c : Cache) (desk : Desk) (key : List ℕ) (cause : Option DropCause) → (sweep_step c desk key cause).cache.now ≡ c.now
+moment_by c desk key (Some cause) = refl
+moment_by c desk key None = refl
 
 pub moment_swept : (c : Cache) (desk : Desk) (key : List ℕ) → (sweep c desk key).cache.now ≡ c.now
-moment_swept c desk key = moment_by c desk key (is_expired_at c (finite.get c.items key))
+moment_swept c desk key = moment_by c desk key (sweep_cause c desk key)
 
 -- the item that is stored, where there is no refusal
 module _ (g : Geometry) (c : Cache) (put : Put) where
@@ -105,14 +104,12 @@ module _ (g : Geometry) (c : Cache) (put : Put) where
         number = omega (arith, is.0);
         deadline = stored_deadline put.mode live put_at was;
         size = subst (λ (v : List ℕ). length v ≤ max g.item_max 20) (sym value) (omega (arith, fits));
-        here = is.1;
       }
 
   outcome_keeps : (r : Option Stored) (item : Item) → (r ≡ None → IsKept g.item_max (c.last_cas + 1) put.key item) → item.cas ≡ c.last_cas + 1 → Keeps g.item_max c → Keeps g.item_max (store_outcome r c put.key item).1
   outcome_keeps (Some s) item new number keeps = keeps
   outcome_keeps None item new number keeps = record {
     kept = kept-inserted g.item_max c.last_cas c.items put.key item (c.last_cas + 1) (omega arith) (new refl) keeps.kept;
-    apart = apart-inserted c.items put.key item keeps.apart (alone_above c.items g.item_max c.last_cas item.cas put.key (omega (arith, number)) keeps.kept);
     within = keeps.within;
   }
 
@@ -135,8 +132,7 @@ look_by item_max c key look (Some item) there renewed keeps =
     let one = keeps.kept key item there in
     record {
       kept = kept-inserted item_max c.last_cas c.items key (fetched_item c look item) c.last_cas (omega arith)
-          (record { named = one.named; some = one.some; number = one.number; deadline = renewed item.deadline one.deadline; size = one.size; here = one.here }) keeps.kept;
-      apart = apart-inserted c.items key (fetched_item c look item) keeps.apart (alone_own c.items key item there keeps.apart);
+          (record { named = one.named; some = one.some; number = one.number; deadline = renewed item.deadline one.deadline; size = one.size }) keeps.kept;
       within = keeps.within;
     }
 

@@ -1,14 +1,8 @@
 mod Maps
-mod Told
-pub mod News
-pub mod Sweeps
-mod Steps
-mod Unopened
-mod CommandSteps
-mod Clocked
-mod Rooms
-mod Listing
-mod CommandListing
+mod FreshIds
+pub mod GoingOn
+mod Inside
+mod Fitting
 mod Keeping
 mod Kept
 mod CommandKept
@@ -16,7 +10,9 @@ mod Twice
 mod Swept
 mod Stored
 mod Commanded
+mod Clocked
 mod Chosen
+mod Told
 mod Looked
 mod Closing
 mod Small

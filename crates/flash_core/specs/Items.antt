@@ -1,10 +1,10 @@
 -- What a store keeps of each of its items.
-use Rattle.std.specs.Prelude.{◌≡◌, ℕ, ◌^◌, ◌<◌, ◌≤◌, List, length, max, Option, None, Some, IfSome, option_map}
+use Rattle.std.specs.Prelude.{◌≡◌, ℕ, ◌^◌, ◌<◌, ◌≤◌, List, length, max, Option, Some, IfSome, option_map}
 use Rattle.std.specs.FinMap.{get}
 use Rattle.flash_items.specs.declared.item.Parts.{Parts}
 use Rattle.flash_machine.specs.Item.{Item}
 use Rattle.flash_machine.specs.Cache.{Items}
-use Rattle.flash_index.specs.Known.{known_parts, known_value, label_of}
+use Rattle.flash_index.specs.Known.{known_parts, known_value}
 
 -- a deadline, where there is one, is below 2^63
 abbrev pub HasDeadline : Option ℕ → Type 0
@@ -15,15 +15,14 @@ pub record IsKey (key : List ℕ) : Type 0 where
   pub some : 1 ≤ length key
   pub fits : length key ≤ 250
 
--- a key's item has a CAS number from 1 up to the last one, a deadline below 2^63, and a value that is in memory and no
--- longer than it may be, or than the digits of a number
+-- a key's item has a CAS number from 1 up to the last one, a deadline below 2^63, and a value that is no longer than it
+-- may be, or than the digits of a number
 pub record IsKept (item_max last : ℕ) (key : List ℕ) (item : Item) : Type 0 where
   pub named : IsKey key
   pub some : 1 ≤ item.cas
   pub number : item.cas ≤ last
   pub deadline : HasDeadline item.deadline
   pub size : length item.value ≤ max item_max 20
-  pub here : item.label ≡ None
 
 -- each item is kept so
 abbrev pub AreKept : ℕ → ℕ → Items → Type 0
@@ -38,8 +37,7 @@ AreKeys items = (key : List ℕ) (item : Item) → get items key ≡ Some item �
 abbrev pub known_live : List ℕ → Option Parts → Option Item
 known_live key live = option_map (λ parts. known_parts (length key) parts) live
 
--- what is told of an item needs a deadline below 2^63, and a value in memory below 4 GiB
-pub record IsShown (parts : Parts) : Type 0 where
+-- what is told of an item needs a deadline below 2^63, and a value below 4 GiB
+pub record IsShown (key_length : ℕ) (parts : Parts) : Type 0 where
   pub deadline : HasDeadline parts.deadline
-  pub here : label_of parts.body ≡ None
-  pub size : length (known_value 0 parts.body) < 2 ^ 32
+  pub size : length (known_value key_length parts.body) < 2 ^ 32

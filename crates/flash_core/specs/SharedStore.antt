@@ -5,7 +5,7 @@ use Rattle.flash_names.specs.declared.geometry.Geometry.{Geometry}
 use Rattle.flash_entry.specs.declared.entry.Entry.{Entry}
 use Rattle.flash_entry.specs.declared.entry.Entry.TheVariants as entries
 use Rattle.flash_machine.specs.Cache.{Cache}
-use Rattle.flash_core.specs.Store.{Store, Desk}
+use Rattle.flash_calls.specs.Store.{Store, Desk}
 
 -- the story of a store: its journal's entries, where it tells them
 abbrev pub told_of : Store → Option (List Entry)

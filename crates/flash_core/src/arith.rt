@@ -5,22 +5,23 @@ ghost use Rattle.flash_machine.specs.Cache.{Items};
 ghost use Rattle.flash_machine.specs.Looking.{left_to};
 ghost use Rattle.flash_machine.specs.Summing.{number_in, changed_number, number_item, sum_created, sum_changed, sum_step};
 ghost use Rattle.flash_index.specs.Known.{known_parts, known_item, known_value};
-ghost use Rattle.flash_core.specs.CommandCalls.{sum_call};
+ghost use Rattle.flash_index.specs.Places.{place_of};
+ghost use Rattle.flash_calls.specs.Calls.{sum_call};
+ghost use Rattle.flash_calls.specs.Store.{Becomes, Stays};
 ghost use Rattle.flash_core.specs.Counting.{HasNoNumber, IsChosen, MaySet, answer_with, sum_with};
 ghost use Rattle.flash_core.specs.Items.{HasDeadline, known_live};
 ghost use Rattle.flash_core.specs.Numbers.{cache_of_items};
 ghost use Rattle.flash_core.specs.Sound.{IsNewTold};
-ghost use Rattle.flash_core.specs.Store.{Becomes, Stays};
 
 use crate::choice::{LAST_NUMBER, deadline_of};
 use crate::delete::compare_fails;
-use crate::laws::each_sum_goes_on;
 use crate::look::{left_of, renewal_is_below, renewed_at};
 use crate::noting::{dropped, note_behind};
 use crate::numbers::Numbers;
 use crate::sought::{is_key, live_parts, seek};
 use crate::state::Core;
 use crate::store::put_or_drop;
+use flash_calls::each_sum_goes_on;
 use flash_entry::{Arith, Create, DoneNote, Journal, Note, Sum, Summed};
 use flash_items::{Body, Item, Parts};
 use flash_names::{Blob, Id, Key, read_number};
@@ -31,9 +32,10 @@ impl<J: Journal> Core<J> {
     /// Adds to the number that the key's item holds, or takes away from it, or answers the first refusal: by the item
     /// that isn't there, the CAS number given, the value that is no number, and the last CAS number. Up it wraps at
     /// 2^64, down it stops at 0. The item holds the number in decimal digits from then on, and its key is at HOT's
-    /// front. Where the key has no live item, the one of `ask.create` is stored, if there is one. A dead item under the
-    /// key is dropped first. Where memory runs out nothing changes. `id` has to be new: its pass isn't 0, and each step
-    /// of that pass in the journal has a smaller number, where the journal tells its entries.
+    /// front. Where the key has no live item, the one of `ask.create` is stored, if there is one. An item under the key
+    /// that is dead, or whose page has ended, is dropped first. Where memory runs out nothing changes. `id` has to be
+    /// new: its pass isn't 0, and each step of that pass in the journal has a smaller number, where the journal tells
+    /// its entries.
     pub fn arith(&mut self, alloc: Global, id: Id, ask: &Arith) -> Result<Sum, AllocError>
         requires { IsNewTold self.old.told id }
         ensures ok { OnOk result (Becomes self.old (sum_call self.old.cache self.old.desk id ask.now) self.new) }
@@ -42,16 +44,15 @@ impl<J: Journal> Core<J> {
         ensures err { OnErr result (Stays self.old self.new) }
         ensures ready { IsTrue self.old.ready → IsTrue self.new.ready }
     {
-        self.index.is_listed();
         each_sum_goes_on();
         is_key(&ask.key);
-        let sought = seek(&self.index, &self.numbers, &ask.key);
+        let sought = seek(&self.index, &self.blocks, &self.numbers, &ask.key);
         let live = live_parts(&self.index, sought);
         let sum = sum_of(alloc, &self.numbers, ask, live)?;
         self.index.reserve_one(alloc)?;
         let did = Note::Did(id, DoneNote::Sum(ask, sum.answer));
         note_behind(&mut self.journal, dropped(&ask.key, sought), did)?;
-        put_or_drop(&mut self.index, sought, sum.item);
+        put_or_drop(&mut self.index, &mut self.blocks, sought, sum.item);
         self.numbers.last_cas = sum.last_cas;
         Ok(sum.answer)
     }
@@ -87,7 +88,8 @@ fn sum_of(
         IsChosen c ask.now.key (sum_step c ask.now (known_live ask.now.key (option_copied live.entry))) choice) }
     ensures sets { MaySet ask.now numbers.now.moment }
     ensures key { IfOk result (λ choice. ForSome choice.item (λ item. item.key ≡ ask.now.key)) }
-    ensures fits { IfOk result (λ choice. ForSome choice.item (λ item. length (known_value 0 item.body) ≤ 20)) }
+    ensures fits { IfOk result (λ choice. ForSome choice.item (λ item.
+        (length (known_value 0 item.body) ≤ 20) × (place_of item.body ≡ None))) }
 {
     sets_within(ask, numbers.moment);
     match new_number(numbers.moment, ask, live) {
@@ -244,7 +246,7 @@ fn number_item(
     ensures item { IfOk result (λ item. (items : Items) (numbers : Numbers) → numbers.moment ≡ moment
         → cas ≡ numbers.last_cas + 1
         → known_item item ≡ number_item (cache_of_items items numbers) new.flags new.deadline new.number) }
-    ensures fits { IfOk result (λ item. length (known_value 0 item.body) ≤ 20) }
+    ensures fits { IfOk result (λ item. (length (known_value 0 item.body) ≤ 20) × (place_of item.body ≡ None)) }
 {
     let digits = Blob::from_slice(alloc, Buffer::new().format(new.number).as_bytes())?;
     Ok(Item {

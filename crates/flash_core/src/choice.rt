@@ -2,6 +2,7 @@
 ghost use Rattle.std.specs.Prelude.{◌≡◌, ℕ, ◌+◌, ◌<◌, ◌≤◌, ◌^◌, ◌++◌, List, None, false, IsNone, IfOk, length, nat_lt};
 ghost use Rattle.std.specs.Option.{ForSome, option_copied};
 ghost use Rattle.flash_index.specs.Known.{known_value, known_item, label_of};
+ghost use Rattle.flash_index.specs.Places.{place_of};
 ghost use Rattle.flash_machine.specs.Cache.{Items};
 ghost use Rattle.flash_machine.specs.Moments.{deadline};
 ghost use Rattle.flash_machine.specs.Storing.{can_join, mode_fails, compare_refusal, stored_value, stored_item, refusal};
@@ -44,7 +45,7 @@ pub fn choose(
     ensures deadline { HasDeadline (deadline put.now.exptime numbers.now.moment) }
     ensures key { IfOk result (λ choice. ForSome choice.item (λ item. item.key ≡ put.now.key)) }
     ensures fits { IfOk result (λ choice. ForSome choice.item (λ item.
-        length (known_value 0 item.body) ≤ geometry.now.item_max)) }
+        (length (known_value 0 item.body) ≤ geometry.now.item_max) × (place_of item.body ≡ None))) }
 {
     let expires = deadline_of(put.exptime, numbers.moment);
     match refusal_of(geometry, numbers.last_cas, put, live) {
@@ -180,6 +181,7 @@ fn new_item(
     ensures item { IfOk result (λ item. (items : Items) (numbers : Numbers) → numbers.moment ≡ now
         → cas ≡ numbers.last_cas + 1 → known_item item ≡ stored_item (cache_of_items items numbers) put.now put.now.mode
         (known_live put.now.key (option_copied live.entry))) }
+    ensures here { IfOk result (λ item. place_of item.body ≡ None) }
     ensures value { IfOk result (λ item. known_value 0 item.body
         ≡ stored_value put.now put.now.mode (known_live put.now.key (option_copied live.entry))) }
 {

@@ -1,13 +1,13 @@
 ghost use Rattle.std.specs.Prelude.{◌≡◌, IfOk, OnOk, OnErr, IsOk, IsTrue};
 ghost use Rattle.flash_machine.specs.Cache.{Items};
 ghost use Rattle.flash_machine.specs.Steps.{clock_next};
-ghost use Rattle.flash_core.specs.Calls.{clock_call};
+ghost use Rattle.flash_calls.specs.Calls.{clock_call};
+ghost use Rattle.flash_calls.specs.Store.{Becomes, Stays};
 ghost use Rattle.flash_core.specs.Numbers.{cache_of_items};
-ghost use Rattle.flash_core.specs.Store.{Becomes, Stays};
 
-use crate::laws::each_clock_goes_on;
 use crate::numbers::Numbers;
 use crate::state::Core;
+use flash_calls::each_clock_goes_on;
 use flash_entry::{Journal, Note};
 use std::alloc::AllocError;
 
@@ -24,7 +24,6 @@ impl<J: Journal> Core<J> {
         ensures err { OnErr result (Stays self.old self.new) }
         ensures ready { IsTrue self.old.ready → IsOk result × IsTrue self.new.ready }
     {
-        self.index.is_listed();
         each_clock_goes_on();
         let moment = reading.min(LAST_MOMENT);
         if moment <= self.numbers.moment {

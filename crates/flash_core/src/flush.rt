@@ -1,15 +1,15 @@
 ghost use Rattle.std.specs.Prelude.{◌≡◌, ◌^◌, ◌≤◌, IfOk, OnOk, OnErr, IsOk, IsTrue};
 ghost use Rattle.flash_machine.specs.Cache.{Items};
 ghost use Rattle.flash_machine.specs.Touching.{flush_next};
-ghost use Rattle.flash_core.specs.CommandCalls.{flush_call};
+ghost use Rattle.flash_calls.specs.Calls.{flush_call};
+ghost use Rattle.flash_calls.specs.Store.{Becomes, Stays};
 ghost use Rattle.flash_core.specs.Numbers.{cache_of_items};
 ghost use Rattle.flash_core.specs.Sound.{IsNewTold};
-ghost use Rattle.flash_core.specs.Store.{Becomes, Stays};
 
 use crate::choice::deadline_of;
-use crate::laws::each_flush_goes_on;
 use crate::numbers::Numbers;
 use crate::state::Core;
+use flash_calls::each_flush_goes_on;
 use flash_entry::{DoneNote, Journal, Note};
 use flash_names::Id;
 use std::alloc::AllocError;
@@ -26,7 +26,6 @@ impl<J: Journal> Core<J> {
         ensures err { OnErr result (Stays self.old self.new) }
         ensures ready { IsTrue self.old.ready → IsOk result × IsTrue self.new.ready }
     {
-        self.index.is_listed();
         each_flush_goes_on();
         let did = Note::Did(id, DoneNote::Flush(delay));
         self.journal.note(did, None, None, None)?;

@@ -1,27 +1,37 @@
 // What keeps a store within its memory.
-ghost use Rattle.std.specs.Prelude.{◌≡◌, ℕ, List, None, Some, Option, IfOk, OnOk, OnErr, IsOk, IsTrue, nat_lt, if◌then◌else◌};
-ghost use Rattle.std.specs.FinMap as map;
-ghost use Rattle.flash_lru.specs.declared.segment.Segment.TheVariants as segments;
-ghost use Rattle.flash_machine.specs.Item as machine;
+ghost use Rattle.std.specs.Prelude.{◌≡◌, List, ℕ, None, Option, IfOk, OnOk, OnErr, IsOk, IsTrue, nat_lt, option_map, if◌then◌else◌};
+ghost use Rattle.flash_entry.specs.declared.entry.DropCause.TheVariants as causes;
 ghost use Rattle.flash_machine.specs.Load.{load_of};
-ghost use Rattle.flash_index.specs.IndexState.{AreNamed};
 ghost use Rattle.flash_index.specs.KeyEnds.{last_key, last_out};
 ghost use Rattle.flash_index.specs.KeyLists.{list_of};
-ghost use Rattle.flash_core.specs.Calls.{room_call, reap_call, juggle_call, drop_if, if_expired, expired_last};
-ghost use Rattle.flash_core.specs.Changes.{HasDropped};
+ghost use Rattle.flash_calls.specs.Rooms as calls;
+ghost use Rattle.flash_calls.specs.Rooms.{room_call, reap_call, juggle_call, if_swept, to_reap};
+ghost use Rattle.flash_calls.specs.Store.{Becomes, Stays};
+ghost use Rattle.flash_core.specs.Desks.{AreFit, desk_of};
 ghost use Rattle.flash_core.specs.Items.{AreKeys};
 ghost use Rattle.flash_core.specs.Numbers.{cache_of_items};
-ghost use Rattle.flash_core.specs.Store.{Becomes, Stays};
+ghost use Rattle.flash_core.specs.Rooms.{AreLeavers, HasDropped};
 
-use crate::laws::{each_reaping_goes_on, each_room_goes_on};
+use crate::dropping::take_out;
 use crate::numbers::Numbers;
-use crate::sought::is_dead;
+use crate::sought::leaving_cause;
 use crate::state::Core;
+use flash_blocks::Blocks;
+use flash_calls::{each_juggling_goes_on, each_reaping_goes_on, each_room_goes_on};
 use flash_entry::{DropCause, Journal, Note};
 use flash_index::Index;
 use flash_lru::Segment;
 use flash_names::{ItemId, Key};
 use std::alloc::AllocError;
+
+/// An item that is to be dropped, and why.
+#[derive(Clone, Copy)]
+pub struct Leaver {
+    /// The item's id.
+    pub id: ItemId,
+    /// Why it is dropped.
+    pub cause: DropCause,
+}
 
 impl<J: Journal> Core<J> {
     /// Where the items take more than the memory, drops the one that is to leave next, the last of COLD, else of WARM,
@@ -34,29 +44,22 @@ impl<J: Journal> Core<J> {
         ensures err { OnErr result (Stays self.old self.new) }
         ensures ready { IsTrue self.old.ready → IsOk result × IsTrue self.new.ready }
     {
-        self.index.is_listed();
         each_room_goes_on();
-        let leaving = leaving_next(&self.index, self.geometry.memory);
-        drop_item(
-            &mut self.journal,
-            &mut self.index,
-            leaving,
-            DropCause::Evict,
-        )
+        let leaver = leaving_next(&self.index, self.geometry.memory);
+        drop_item(&mut self.journal, &mut self.index, &mut self.blocks, leaver)
     }
 
-    /// Drops the first of the last items of COLD, WARM and HOT that is dead, and gives its key; `None` where none is.
-    /// Memory runs out only where the journal isn't ready, and changes nothing.
+    /// Drops the first of the last items of COLD, WARM and HOT that is dead, or whose page has ended, and gives its key;
+    /// `None` where none is. Memory runs out only where the journal isn't ready, and changes nothing.
     pub fn reap_one(&mut self) -> Result<Option<Key>, AllocError>
         ensures ok { OnOk result (Becomes self.old (reap_call self.old.cache self.old.desk) self.new) }
         ensures answer { IfOk result (λ answer. answer ≡ (reap_call self.old.cache self.old.desk).answer) }
         ensures err { OnErr result (Stays self.old self.new) }
         ensures ready { IsTrue self.old.ready → IsOk result × IsTrue self.new.ready }
     {
-        self.index.is_listed();
         each_reaping_goes_on();
-        let dead = dead_last(&self.index, &self.numbers);
-        drop_item(&mut self.journal, &mut self.index, dead, DropCause::Dead)
+        let leaver = leaving_last(&self.index, &self.blocks, &self.numbers);
+        drop_item(&mut self.journal, &mut self.index, &mut self.blocks, leaver)
     }
 
     /// Makes the first move of a key between the three lists that applies, and answers whether there is one: from a
@@ -67,47 +70,60 @@ impl<J: Journal> Core<J> {
         ensures answer { result ≡ (juggle_call self.old.geometry self.old.cache self.old.desk).answer }
         ensures ready { self.new.ready ≡ self.old.ready }
     {
+        each_juggling_goes_on();
         self.index.juggle_one()
     }
 }
 
 // The item that is to leave next, where the items take more than the memory.
-fn leaving_next(index: &Index, memory: u64) -> Option<ItemId>
-    ensures { AreNamed index.now result
-        (if nat_lt memory (load_of index.now.items) then last_out index.now.lists else None) }
+fn leaving_next(index: &Index, memory: u64) -> Option<Leaver>
+    ensures { AreLeavers index.now result (if nat_lt memory (load_of index.now.items) then option_map
+        (λ key. record { key = key; cause = causes.Evict }) (last_out index.now.lists) else None) }
 {
-    if index.load() > memory {
-        index.last_out()
-    } else {
-        None
+    if index.load() <= memory {
+        return None;
     }
+    let Some(id) = index.last_out() else {
+        return None;
+    };
+    Some(Leaver {
+        id,
+        cause: DropCause::Evict,
+    })
 }
 
-// The first of the last items of COLD, WARM and HOT that is dead.
-fn dead_last(index: &Index, numbers: &Numbers) -> Option<ItemId>
-    ensures { AreNamed index.now result (expired_last (cache_of_items index.now.items numbers.now) index.now.lists) }
+// The first of the last items of COLD, WARM and HOT that is to be dropped.
+fn leaving_last(index: &Index, blocks: &Blocks, numbers: &Numbers) -> Option<Leaver>
+    requires { AreFit index.now blocks.now }
+    ensures { AreLeavers index.now result
+        (to_reap (cache_of_items index.now.items numbers.now) (desk_of index.now blocks.now)) }
 {
-    if let Some(id) = dead_last_of(index, numbers, Segment::Cold) {
-        return Some(id);
+    if let Some(leaver) = leaving_last_of(index, blocks, numbers, Segment::Cold) {
+        return Some(leaver);
     }
-    if let Some(id) = dead_last_of(index, numbers, Segment::Warm) {
-        return Some(id);
+    if let Some(leaver) = leaving_last_of(index, blocks, numbers, Segment::Warm) {
+        return Some(leaver);
     }
-    dead_last_of(index, numbers, Segment::Hot)
+    leaving_last_of(index, blocks, numbers, Segment::Hot)
 }
 
-// The last item of a segment, where it is dead.
-fn dead_last_of(index: &Index, numbers: &Numbers, segment: Segment) -> Option<ItemId>
-    ensures { AreNamed index.now result
-        (if_expired (cache_of_items index.now.items numbers.now) (last_key (list_of segment index.now.lists))) }
+// The last item of a segment, where it is to be dropped.
+fn leaving_last_of(
+    index: &Index,
+    blocks: &Blocks,
+    numbers: &Numbers,
+    segment: Segment,
+) -> Option<Leaver>
+    requires { AreFit index.now blocks.now }
+    ensures { AreLeavers index.now result (if_swept (cache_of_items index.now.items numbers.now)
+        (desk_of index.now blocks.now) (last_key (list_of segment index.now.lists))) }
 {
     let Some(id) = index.last_of(segment) else {
         return None;
     };
-    if is_dead(index, numbers, id) {
-        Some(id)
-    } else {
-        None
+    match leaving_cause(index, blocks, numbers, id) {
+        None => None,
+        Some(cause) => Some(Leaver { id, cause }),
     }
 }
 
@@ -115,25 +131,28 @@ fn dead_last_of(index: &Index, numbers: &Numbers, segment: Segment) -> Option<It
 fn drop_item<J: Journal>(
     journal: &mut J,
     index: &mut Index,
-    id: Option<ItemId>,
-    cause: DropCause,
+    blocks: &mut Blocks,
+    leaver: Option<Leaver>,
 ) -> Result<Option<Key>, AllocError>
     requires keys { AreKeys index.old.items }
-    requires id { (key : Option (List ℕ)) × AreNamed index.old id key }
-    ensures dropped { OnOk result ((key : Option (List ℕ)) → AreNamed index.old id key
-        → HasDropped cause key (J.told journal.old) (J.told journal.new) index.old index.new) }
-    ensures answer { IfOk result (λ answer. (key : Option (List ℕ)) → AreNamed index.old id key → answer ≡ key) }
+    requires fit { AreFit index.old blocks.old }
+    requires id { (is : Option calls.Leaver) × AreLeavers index.old leaver is }
+    ensures dropped { OnOk result ((is : Option calls.Leaver) → AreLeavers index.old leaver is
+        → HasDropped is (J.told journal.old) (J.told journal.new) index.old blocks.old index.new blocks.new) }
+    ensures answer { IfOk result (λ answer. (is : Option calls.Leaver) → AreLeavers index.old leaver is
+        → answer ≡ option_map (λ one. one.key) is) }
     ensures told { OnErr result (J.told journal.new ≡ J.told journal.old) }
     ensures index { OnErr result (index.new ≡ index.old) }
+    ensures blocks { OnErr result (blocks.new ≡ blocks.old) }
     ensures ready { IsTrue (J.ready journal.old) → IsOk result × IsTrue (J.ready journal.new) }
 {
-    let Some(id) = id else {
+    let Some(Leaver { id, cause }) = leaver else {
         return Ok(None);
     };
     let Some(key) = Key::from_bytes(index.item(id).key) else {
         return Ok(None);
     };
     journal.note(Note::Dropped(&key, cause), None, None, None)?;
-    index.remove(id);
+    take_out(index, blocks, id);
     Ok(Some(key))
 }

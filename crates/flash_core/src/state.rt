@@ -1,14 +1,19 @@
 ghost use Rattle.std.specs.Prelude.{◌≡◌, ℕ, ◌^◌, ◌<◌, [], IfOk, IfErr, IsTrue};
 ghost use Rattle.std.specs.Option.{ForSome};
+ghost use Rattle.std.specs.FinMap as map;
 ghost use Rattle.flash_names.specs.Geometry.{Passes, check_result};
 ghost use Rattle.flash_machine.specs.Cache.{first_cache};
 ghost use Rattle.flash_machine.specs.Load.{load_of};
+ghost use Rattle.flash_blocks.specs.BlockTable.{first_table};
+ghost use Rattle.flash_index.specs.KeyLists.{empty_lists};
 ghost use Rattle.flash_index.specs.Listed.{IsListed};
+ghost use Rattle.flash_calls.specs.Store.{first_desk};
 ghost use Rattle.flash_core.specs.Open.{IsRefusedFor};
-ghost use Rattle.flash_core.specs.Sound.{IsToldRun};
-ghost use Rattle.flash_core.specs.Store.{first_desk};
+ghost use Rattle.flash_core.specs.Sound.{HasRun, IsToldRun};
 
 use crate::numbers::Numbers;
+use flash_blocks::Blocks;
+use flash_calls::the_first_run;
 use flash_entry::Journal;
 use flash_index::Index;
 use flash_names::{BadGeometry, Geometry};
@@ -22,19 +27,21 @@ pub struct Core<J: Journal> {
     pub(crate) geometry: Geometry,
     pub(crate) journal: J,
     pub(crate) index: Index,
+    pub(crate) blocks: Blocks,
     pub(crate) numbers: Numbers,
 }
 
 impl<J: Journal> Model for Core<J> {
     ghost use Rattle.std.specs.Coded.{codes};
     ghost use Rattle.flash_machine.specs.Codes.{items_code};
-    ghost use Rattle.flash_index.specs.Codes.{lists_code};
-    ghost use Rattle.flash_core.specs.Store.{Store};
+    ghost use Rattle.flash_index.specs.Codes.{lists_code, places_code};
+    ghost use Rattle.flash_calls.specs.Store.{Store};
 
     ghost Value = { Store };
 
-    ghost coded = { Prim.hlevel (codes, items_code, lists_code) };
+    ghost coded = { Prim.hlevel (codes, items_code, lists_code, places_code) };
 
+    ghost use Rattle.flash_core.specs.Desks.{desk_of};
     ghost use Rattle.flash_core.specs.Numbers.{cache_of_items};
     ghost use Rattle.flash_core.specs.Sound.{IsSound};
 
@@ -43,11 +50,11 @@ impl<J: Journal> Model for Core<J> {
       told = J.told c.journal;
       ready = J.ready c.journal;
       cache = cache_of_items c.index.items c.numbers;
-      desk = record { lists = c.index.lists };
+      desk = desk_of c.index c.blocks;
     } };
 
     ghost invariant = { λ c. IsSound c.geometry c.index.memory (cache_of_items c.index.items c.numbers)
-        (J.told c.journal) };
+        (desk_of c.index c.blocks) (J.told c.journal) };
 }
 
 /// Why a store wasn't opened.
@@ -89,7 +96,7 @@ impl<J: Journal> Core<J> {
           told = J.told journal;
           ready = J.ready journal;
           cache = first_cache;
-          desk = first_desk;
+          desk = first_desk geometry;
         }) }
         ensures passes { IfOk result (λ _. Passes geometry) }
         ensures broken { IfErr (check_result geometry)
@@ -102,11 +109,13 @@ impl<J: Journal> Core<J> {
                 journal,
             });
         }
-        match Index::open(alloc, geometry.memory) {
-            Ok(index) => Ok(Core {
+        the_first_run();
+        match open_parts(alloc, &geometry) {
+            Ok((index, blocks)) => Ok(Core {
                 geometry,
                 journal,
                 index,
+                blocks,
                 numbers: FIRST_NUMBERS,
             }),
             Err(AllocError) => Err(OpenError {
@@ -138,18 +147,20 @@ impl<J: Journal> Core<J> {
         self.geometry
     }
 
-    /// The journal. Where it tells its entries, they are a run of the one-thread cache, and the store's cache
-    /// is the one that they make.
+    /// The journal. Where it tells its entries, they are a run of the one-thread cache, and the store has the heads of
+    /// the cache that they make. Whether it tells them or not, there is such a run, of which the store has all that it
+    /// keeps.
     pub fn journal(&self) -> &J
         ensures told { J.told result.now ≡ self.now.told }
         ensures ready { J.ready result.now ≡ self.now.ready }
         ensures run { IsToldRun self.now.geometry self.now.cache self.now.told }
+        ensures runs { HasRun self.now.geometry self.now.cache self.now.desk self.now.told }
     {
         &self.journal
     }
 
-    /// The journal, given back. Where it tells its entries, they are a run of the one-thread cache, and the
-    /// store's cache was the one that they make.
+    /// The journal, given back. Where it tells its entries, they are a run of the one-thread cache, and the store had
+    /// the heads of the cache that they make.
     pub fn into_journal(self) -> J
         ensures told { J.told result ≡ self.told }
         ensures ready { J.ready result ≡ self.ready }
@@ -157,4 +168,22 @@ impl<J: Journal> Core<J> {
     {
         self.journal
     }
+}
+
+// The index and the blocks of a store without items.
+fn open_parts(alloc: Global, geometry: &Geometry) -> Result<(Index, Blocks), AllocError>
+    requires { Passes geometry.now }
+    ensures index { IfOk result (λ parts. parts.0 ≡ record {
+      items = map.empty;
+      places = map.empty;
+      lists = empty_lists;
+      memory = geometry.now.memory;
+      ids = map.empty;
+      spare = parts.0.spare;
+    }) }
+    ensures blocks { IfOk result (λ parts. parts.1 ≡ first_table geometry.now) }
+{
+    let index = Index::open(alloc, geometry.memory)?;
+    let blocks = Blocks::open(alloc, geometry)?;
+    Ok((index, blocks))
 }

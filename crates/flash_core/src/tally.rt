@@ -1,10 +1,10 @@
 ghost use Rattle.std.specs.Prelude.{◌≡◌, IfOk, OnOk, OnErr, IsOk, IsTrue};
-ghost use Rattle.flash_core.specs.CommandCalls.{tally_call};
+ghost use Rattle.flash_calls.specs.Calls.{tally_call};
+ghost use Rattle.flash_calls.specs.Store.{Becomes, Stays};
 ghost use Rattle.flash_core.specs.Sound.{IsNewTold};
-ghost use Rattle.flash_core.specs.Store.{Becomes, Stays};
 
-use crate::laws::each_tally_goes_on;
 use crate::state::Core;
+use flash_calls::each_tally_goes_on;
 use flash_entry::{DoneNote, Journal, Note, Tally};
 use flash_names::Id;
 use std::alloc::AllocError;
@@ -17,20 +17,19 @@ impl<J: Journal> Core<J> {
     pub fn tally(&mut self, id: Id) -> Result<Tally, AllocError>
         requires { IsNewTold self.old.told id }
         ensures ok { OnOk result (Becomes self.old
-            (tally_call self.old.geometry self.old.cache self.old.desk id) self.new) }
+            (tally_call self.old.cache self.old.desk id) self.new) }
         ensures answer { IfOk result (λ answer. answer
-            ≡ (tally_call self.old.geometry self.old.cache self.old.desk id).answer) }
+            ≡ (tally_call self.old.cache self.old.desk id).answer) }
         ensures err { OnErr result (Stays self.old self.new) }
         ensures ready { IsTrue self.old.ready → IsOk result × IsTrue self.new.ready }
     {
-        self.index.is_listed();
         each_tally_goes_on();
         let tally = Tally {
             items: self.index.len(),
             load: self.index.load(),
             last_cas: self.numbers.last_cas,
             now: self.numbers.moment,
-            free_pages: u64::from(self.geometry.pages),
+            free_pages: u64::from(self.blocks.free_pages()),
         };
         let did = Note::Did(id, DoneNote::Stats(tally));
         self.journal.note(did, None, None, None)?;

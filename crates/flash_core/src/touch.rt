@@ -5,17 +5,20 @@ ghost use Rattle.flash_machine.specs.Cache.{Cache};
 ghost use Rattle.flash_machine.specs.Item as machine;
 ghost use Rattle.flash_machine.specs.Touching.{touch_step};
 ghost use Rattle.flash_index.specs.IndexState.{HasId};
-ghost use Rattle.flash_core.specs.Changes.{HasTouched};
-ghost use Rattle.flash_core.specs.CommandCalls.{touch_call};
-ghost use Rattle.flash_core.specs.Sought.{id_sought, live_of};
+ghost use Rattle.flash_calls.specs.Calls.{touch_call};
+ghost use Rattle.flash_calls.specs.Store.{Becomes, Stays};
+ghost use Rattle.flash_core.specs.Changes.{AreLeft, items_after_touch, swept_desk};
+ghost use Rattle.flash_core.specs.Desks.{AreFit, desk_of};
+ghost use Rattle.flash_core.specs.Sought.{id_sought, cause_sought, live_of};
 ghost use Rattle.flash_core.specs.Sound.{IsNewTold};
-ghost use Rattle.flash_core.specs.Store.{Becomes, Stays};
 
 use crate::choice::deadline_of;
-use crate::laws::each_touch_goes_on;
+use crate::dropping::take_out;
 use crate::noting::{dropped, note_behind};
 use crate::sought::{Sought, seek};
 use crate::state::Core;
+use flash_blocks::Blocks;
+use flash_calls::each_touch_goes_on;
 use flash_entry::{DoneNote, Journal, Note, Touched};
 use flash_index::Index;
 use flash_names::{Id, Key};
@@ -23,9 +26,9 @@ use std::alloc::AllocError;
 
 impl<J: Journal> Core<J> {
     /// Gives the key's live item the deadline of this exptime, as `Put::exptime`, and changes nothing else of it:
-    /// `NotFound` where there is none. A dead item under the key is dropped first. Memory runs out only where the
-    /// journal isn't ready, and changes nothing. `id` has to be new: its pass isn't 0, and each step of that pass in
-    /// the journal has a smaller number, where the journal tells its entries.
+    /// `NotFound` where there is none. An item under the key that is dead, or whose page has ended, is dropped first.
+    /// Memory runs out only where the journal isn't ready, and changes nothing. `id` has to be new: its pass isn't 0,
+    /// and each step of that pass in the journal has a smaller number, where the journal tells its entries.
     pub fn touch(&mut self, id: Id, key: &Key, exptime: i64) -> Result<Touched, AllocError>
         requires { IsNewTold self.old.told id }
         ensures ok { OnOk result (Becomes self.old
@@ -35,14 +38,13 @@ impl<J: Journal> Core<J> {
         ensures err { OnErr result (Stays self.old self.new) }
         ensures ready { IsTrue self.old.ready → IsOk result × IsTrue self.new.ready }
     {
-        self.index.is_listed();
         each_touch_goes_on();
-        let sought = seek(&self.index, &self.numbers, key);
+        let sought = seek(&self.index, &self.blocks, &self.numbers, key);
         let answer = touched_at(sought);
         let deadline = deadline_of(exptime, self.numbers.moment);
         let did = Note::Did(id, DoneNote::Touch(key, exptime, answer));
         note_behind(&mut self.journal, dropped(key, sought), did)?;
-        renew_or_drop(&mut self.index, sought, deadline);
+        renew_or_drop(&mut self.index, &mut self.blocks, sought, deadline);
         Ok(answer)
     }
 }
@@ -58,15 +60,17 @@ fn touched_at(sought: Sought) -> Touched
     }
 }
 
-// Drops a dead item, and gives a live one this deadline.
-fn renew_or_drop(index: &mut Index, sought: Sought, deadline: Option<u64>)
-    requires { (id : ids.ItemId) → id_sought sought ≡ Some id → HasId index.old id }
+// Drops an item that is to be dropped, and gives a live one this deadline.
+fn renew_or_drop(index: &mut Index, blocks: &mut Blocks, sought: Sought, deadline: Option<u64>)
+    requires id { (id : ids.ItemId) → id_sought sought ≡ Some id → HasId index.old id }
+    requires fit { AreFit index.old blocks.old }
     ensures { (key : List ℕ) → option_map (λ id. id.key) (id_sought sought) ≡ map.get index.old.ids key
-        → HasTouched deadline key sought index.old index.new }
+        → AreLeft index.old.memory (items_after_touch deadline key sought index.old.items)
+        (swept_desk (cause_sought sought) key (desk_of index.old blocks.old)) index.new blocks.new }
 {
     match sought {
         Sought::Absent => {}
-        Sought::Expired(id) => index.remove(id),
+        Sought::Leaving(id, _) => take_out(index, blocks, id),
         Sought::Live(id) => {
             let parts = index.item(id).parts;
             let (fetched, access) = (parts.fetched, parts.access);

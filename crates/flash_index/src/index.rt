@@ -82,6 +82,8 @@ impl Index {
         ensures key { (key : List ℕ) → Names self.now id key → result.key.now ≡ key }
         ensures item { (key : List ℕ) → Names self.now id key
             → map.get self.now.items key ≡ Some (known_parts (length key) result.parts.now) }
+        ensures place { (key : List ℕ) → Names self.now id key
+            → place_of result.parts.now.body ≡ map.get self.now.places key }
     {
         self.items.is_in_step();
         self.items.item(id)

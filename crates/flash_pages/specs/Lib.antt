@@ -1,5 +1,6 @@
 pub mod Calls
 pub mod Freeable
+pub mod Labels
 pub mod Law
 pub mod Least
 pub mod Opening

@@ -4,6 +4,7 @@ ghost use Rattle.flash_names.specs.declared.geometry.Geometry.{Geometry};
 ghost use Rattle.flash_pages.specs.States.{is_free, is_open, is_full, is_ended, is_in_use};
 ghost use Rattle.flash_pages.specs.PageTable.{PageTable, blank_row, first_table, free_count, row_of, IsAt};
 ghost use Rattle.flash_pages.specs.Opening.{next_opening, is_refused, pages_wanted, WasFree, IsFreeRow};
+ghost use Rattle.flash_pages.specs.Labels.{page_label};
 ghost use Rattle.flash_pages.specs.Freeable.{freeable, first_freeable};
 ghost use Rattle.flash_pages.specs.Victims.{victim_evict, victim_compact};
 ghost use Rattle.flash_pages.specs.Calls.{table_after, opens, pins, unpins, adds_live, takes_live, fills, ends, frees, compacts, compacts_none, spares, has_ended, CanPin, HasPin, CanAdd, HasLive, CanFree, CanCompact};
@@ -246,6 +247,23 @@ impl Pages {
     {
         let row = self.row(label.page);
         !(row.version == label.version && row.state.is_in_use())
+    }
+
+    /// The label that the page has now; none where it is Free, or where there is no such page.
+    pub fn page_label(&self, page: u32) -> Option<Label>
+        ensures { result ≡ page_label self.now page }
+    {
+        let row = match self.rows.get(page as usize) {
+            None => return None,
+            Some(row) => *row,
+        };
+        if row.state.is_free() {
+            return None;
+        }
+        Some(Label {
+            page,
+            version: row.version,
+        })
     }
 
     /// The ended page of lowest number that has no pin.

@@ -7,12 +7,12 @@ use Rattle.flash_names.specs.declared.geometry.Geometry.{Geometry}
 use Rattle.flash_entry.specs.declared.entry.Entry.{Entry}
 use Rattle.flash_entry.specs.declared.ask.Ask.{Ask}
 use Rattle.flash_entry.specs.declared.found.Told.{Told}
-use Rattle.flash_core.specs.Calls.{clock_call}
+use Rattle.flash_calls.specs.Calls.{clock_call}
+use Rattle.flash_calls.specs.Store.{Call}
 use Rattle.flash_commands.specs.Commands.{commands_of}
 use Rattle.flash_session.specs.Talks.{steps_of}
 use Rattle.flash_play.specs.Fronts.{GoesOnFrom, EachFrontMakesAFront}
 use Rattle.flash_play.specs.Playing.{Seat, StoreState, Play, Need, Writes, Does, Ends, Rests, need_of, turn_by, first_play, do_ask, do_asks, seat_with_more, feed, play_from, play_step, seat_at, with_line, with_seat, called, upkeep_call}
-use Rattle.flash_core.specs.Store.{Call}
 use Rattle.flash_script.specs.Steps.{Step, Clock, Say, Feed, Turn, Run, Keep}
 use Rattle.flash_play.proofs.Seating.{kept_called}
 
@@ -68,4 +68,4 @@ module _ (g : Geometry) where
 
 -- the law
 pub each_front : EachFrontMakesAFront
-each_front = λ g steps more. fronts_go_on g first_play 2 steps more
+each_front = λ g steps more. fronts_go_on g (first_play g) 2 steps more

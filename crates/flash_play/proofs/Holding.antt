@@ -1,14 +1,14 @@
 -- What holds wherever a play stands: the store is kept, and each session is up to the bytes that it was given.
-use Rattle.std.proofs.Common.{◌≡◌, ◌≢◌, ℕ, ◌^◌, Bool, true, false, List, [], ◌++◌, length, if◌then◌else◌, refl, sym, ◌∙◌, ap, subst, arith, inl, inr}
-use Rattle.std.specs.Prelude.{max, min, nat_eq, codes}
+use Rattle.std.proofs.Common.{◌≡◌, ◌≢◌, ℕ, Bool, true, false, List, [], ◌++◌, length, if◌then◌else◌, refl, sym, ap, subst, arith, inl, inr}
+use Rattle.std.specs.Prelude.{nat_eq, codes}
 use Rattle.std.proofs.lemmas.Bool.{cases_eq, cond_both}
 use Rattle.std.proofs.lemmas.Bool.Decides.{nat_tests}
 use Rattle.flash_names.specs.declared.geometry.Geometry.{Geometry}
 use Rattle.flash_entry.specs.declared.ask.Ask.{Ask}
 use Rattle.flash_entry.specs.declared.entry.Entry.{Entry}
 use Rattle.flash_entry.specs.declared.found.Told.{Told}
-use Rattle.flash_core.specs.Store.{Call}
-use Rattle.flash_core.specs.Calls.{clock_call}
+use Rattle.flash_calls.specs.Calls.{clock_call}
+use Rattle.flash_calls.specs.Store.{Call}
 use Rattle.flash_answers.specs.Records.{AreOfNoStep}
 use Rattle.flash_script.specs.declared.step.Upkeep.{Upkeep}
 use Rattle.flash_script.specs.declared.step.Upkeep.TheVariants.{Room, Reap, Juggle}
@@ -16,7 +16,6 @@ use Rattle.flash_play.specs.Answers.{bytes_for}
 use Rattle.flash_play.specs.Numbers.{IsNumbered}
 use Rattle.flash_play.specs.Playing.{Seat, StoreState, Play, after_call, do_asks, seat_at, with_seat, with_line, seat_with_more, feed, called, upkeep_call, play_step}
 use Rattle.flash_script.specs.Steps.{Clock, Feed, Keep, IsSession}
-use Rattle.flash_play.proofs.Moments.{clock_moment, upkept_moment}
 use Rattle.flash_play.proofs.Numbering.{step_numbered, upkeep_none}
 use Rattle.flash_play.proofs.Seating.{seat_is, seat_same, seat_other, kept_called, seats_called, step_seats}
 use Rattle.flash_play.proofs.Serving.{StepLaws, number_laws, IsKept, IsServed, none_keeps, served_behind, asks_serve_other}
@@ -24,9 +23,8 @@ use Rattle.flash_play.proofs.UpTo.{ByteLaws, IsUpTo, steps_in, given_none, more_
 
 -- whatever was played: the store is kept, and each session is up to the bytes that it was given, and to those before its
 -- last run unless it took single turns `since`
-pub record Holds (g : Geometry) (p : Play) (now : ℕ) (given turned : ℕ → List ℕ) (since : ℕ → Bool) : Type 0 where
+pub record Holds (g : Geometry) (p : Play) (given turned : ℕ → List ℕ) (since : ℕ → Bool) : Type 0 where
   pub kept : IsKept g p.kept
-  pub moment : p.kept.cache.now ≡ now
   pub sixteen : length p.seats ≡ 16
   pub numbered : IsNumbered p
   pub each : (session : ℕ) → IsSession session → IsUpTo g session (given session) (turned session) (since session) p.kept.journal (seat_at p session)
@@ -84,9 +82,9 @@ module _ (laws : StepLaws) (g : Geometry) where
       over_journal g other state.0.journal (do_asks g session state asks).0.journal given turned since seat (λ done served. asks_serve_other laws g session other state asks done seat.told differ served) up
 
   -- a call that no session makes leaves each session up to its bytes
-  call_each : (p : Play) (line : ℕ) (call : Call Bool) (now : ℕ) (given turned : ℕ → List ℕ) (since : ℕ → Bool) → AreOfNoStep call.entries → Holds g p now given turned since → (session : ℕ) → IsSession session
+  call_each : (p : Play) (line : ℕ) (call : Call Bool) (given turned : ℕ → List ℕ) (since : ℕ → Bool) → AreOfNoStep call.entries → Holds g p given turned since → (session : ℕ) → IsSession session
       → IsUpTo g session (given session) (turned session) (since session) (called p line call).kept.journal (seat_at (called p line call) session)
-  call_each p line call now given turned since none was session is =
+  call_each p line call given turned since none was session is =
       let seat = seat_at p session in
       let there : seat ≡ seat_at (called p line call) session = sym (seat_is p (called p line call) session (seats_called p line call)) in
       let after = behind_up session p.kept.journal call.entries (given session) (turned session) (since session) seat none (was.each session is) in
@@ -95,40 +93,38 @@ module _ (laws : StepLaws) (g : Geometry) where
 
   module _ (byte_laws : ByteLaws) where
     -- a reading of the clock
-    pub clock_holds : (p : Play) (line reading now : ℕ) (given turned : ℕ → List ℕ) (since : ℕ → Bool) → Holds g p now given turned since
-        → Holds g (play_step g p line (Clock reading)) (max now (min reading (2 ^ 62))) (λ session. given session ++ []) turned since
-    clock_holds p line reading now given turned since was =
+    pub clock_holds : (p : Play) (line reading : ℕ) (given turned : ℕ → List ℕ) (since : ℕ → Bool) → Holds g p given turned since
+        → Holds g (play_step g p line (Clock reading)) (λ session. given session ++ []) turned since
+    clock_holds p line reading given turned since was =
         let c = p.kept.cache in
         let call = clock_call c p.kept.desk reading in
         let other = (laws.others g c p.kept.desk).clock reading in record {
-          moment = ap (λ (k : StoreState). k.cache.now) (kept_called p line call) ∙ clock_moment c p.kept.desk reading ∙ ap (λ n. max n (min reading (2 ^ 62))) was.moment;
-          kept = subst (IsKept g) (sym (kept_called p line call)) (record { running = laws.clock g c p.kept.journal p.kept.desk reading was.kept.running; here = other.here was.kept.here });
+          kept = subst (IsKept g) (sym (kept_called p line call)) (laws.clock g c p.kept.journal p.kept.desk reading was.kept);
           sixteen = step_seats g p line (Clock reading) was.sixteen;
           numbered = step_numbered (number_laws laws) g p line (Clock reading) was.sixteen tt was.numbered;
           each = λ session is. given_none byte_laws g session (given session) [] (turned session) (since session) (called p line call).kept.journal (seat_at (called p line call) session) refl
-              (call_each p line call now given turned since other.entries was session is);
+              (call_each p line call given turned since other was session is);
         }
 
     -- upkeep of the store keeps it
     upkept : (p : Play) (kind : Upkeep) → IsKept g p.kept → IsKept g (after_call p.kept (upkeep_call g p.kept.cache p.kept.desk kind))
-    upkept p Room was = record { running = laws.room g p.kept.cache p.kept.journal p.kept.desk was.running; here = (laws.others g p.kept.cache p.kept.desk).room.here was.here }
-    upkept p Reap was = record { running = laws.reaping g p.kept.cache p.kept.journal p.kept.desk was.running; here = (laws.others g p.kept.cache p.kept.desk).reap.here was.here }
-    upkept p Juggle was = record { running = laws.juggling g p.kept.cache p.kept.journal p.kept.desk was.running; here = (laws.others g p.kept.cache p.kept.desk).juggle.here was.here }
+    upkept p Room was = laws.room g p.kept.cache p.kept.journal p.kept.desk was
+    upkept p Reap was = laws.reaping g p.kept.cache p.kept.journal p.kept.desk was
+    upkept p Juggle was = laws.juggling g p.kept.cache p.kept.journal p.kept.desk was
 
-    pub upkeep_holds : (p : Play) (line : ℕ) (kind : Upkeep) (now : ℕ) (given turned : ℕ → List ℕ) (since : ℕ → Bool) → Holds g p now given turned since
-        → Holds g (play_step g p line (Keep kind)) now (λ session. given session ++ []) turned since
-    upkeep_holds p line kind now given turned since was =
+    pub upkeep_holds : (p : Play) (line : ℕ) (kind : Upkeep) (given turned : ℕ → List ℕ) (since : ℕ → Bool) → Holds g p given turned since
+        → Holds g (play_step g p line (Keep kind)) (λ session. given session ++ []) turned since
+    upkeep_holds p line kind given turned since was =
         let call = upkeep_call g p.kept.cache p.kept.desk kind in record {
-          moment = ap (λ (k : StoreState). k.cache.now) (kept_called p line call) ∙ upkept_moment g p.kept.cache p.kept.desk kind ∙ was.moment;
           kept = subst (IsKept g) (sym (kept_called p line call)) (upkept p kind was.kept);
           sixteen = step_seats g p line (Keep kind) was.sixteen;
           numbered = step_numbered (number_laws laws) g p line (Keep kind) was.sixteen tt was.numbered;
           each = λ session is. given_none byte_laws g session (given session) [] (turned session) (since session) (called p line call).kept.journal (seat_at (called p line call) session) refl
-              (call_each p line call now given turned since (upkeep_none (number_laws laws) g p kind) was session is);
+              (call_each p line call given turned since (upkeep_none (number_laws laws) g p kind) was session is);
         }
 
     -- bytes for a session
-    module _ (p : Play) (line session : ℕ) (bytes : List ℕ) (now : ℕ) (given turned : ℕ → List ℕ) (since : ℕ → Bool) (was : Holds g p now given turned since) (is : IsSession session) where
+    module _ (p : Play) (line session : ℕ) (bytes : List ℕ) (given turned : ℕ → List ℕ) (since : ℕ → Bool) (was : Holds g p given turned since) (is : IsSession session) where
       -- what each session was given with them
       abbrev after_feed : ℕ → List ℕ
       after_feed other = given other ++ bytes_for other (Feed session bytes)
@@ -165,9 +161,8 @@ module _ (laws : StepLaws) (g : Geometry) where
           each_with p takes session (seat_with_more seat bytes) after_feed turned since was.sixteen is refl
           (feed_own (seat_with_more seat bytes) (more_up byte_laws g session (given session) bytes (turned session) (since session) p.kept.journal seat is_open (was.each session is))) feed_others
 
-      pub feed_holds : Holds g (feed p line session bytes) now after_feed turned since
+      pub feed_holds : Holds g (feed p line session bytes) after_feed turned since
       feed_holds = record {
-        moment = cond_both (seat_at p session).closed closed takes (λ q. q.kept.cache.now ≡ now) (λ is_closed. was.moment) (λ free. was.moment);
         kept = cond_both (seat_at p session).closed closed takes (λ q. IsKept g q.kept) (λ is_closed. was.kept) (λ free. was.kept);
         sixteen = step_seats g p line (Feed session bytes) was.sixteen;
         numbered = step_numbered (number_laws laws) g p line (Feed session bytes) was.sixteen is was.numbered;

@@ -2,9 +2,8 @@ mod Lists
 mod Serving
 mod UpTo
 mod BeforeLastRun
-mod Upkept
-mod Moments
 mod Seating
+mod Moments
 mod Numbering
 mod Holding
 mod Turning

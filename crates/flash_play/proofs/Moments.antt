@@ -1,29 +1,72 @@
 -- The moment of the store: the readings of the clock alone change it.
-use Rattle.std.proofs.Common.{◌≡◌, ℕ, ◌^◌, ◌<◌, ◌≤◌, refl, ◌∙◌, arith}
-use Rattle.std.specs.Prelude.{max, min, nat_lt}
+use Rattle.std.proofs.Common.{◌≡◌, ℕ, ◌+◌, Bool, List, [], ◌∷◌, ◌++◌, length, drop, refl, ◌∙◌, ap}
+use Rattle.std.specs.Prelude.{codes}
 use Rattle.std.proofs.lemmas.Bool.{cond_both}
-use Rattle.std.proofs.lemmas.Bool.Decides.{nat_tests}
 use Rattle.flash_names.specs.declared.geometry.Geometry.{Geometry}
-use Rattle.flash_machine.specs.Cache.{Cache}
-use Rattle.flash_machine.specs.Moments.{is_reached}
-use Rattle.flash_machine.specs.Steps.{clock_next}
-use Rattle.flash_core.specs.Store.{Desk, Call}
-use Rattle.flash_core.specs.Calls.{clock_call}
+use Rattle.flash_entry.specs.declared.ask.Ask.{Ask}
+use Rattle.flash_entry.specs.declared.found.Told.{Told}
+use Rattle.flash_calls.specs.Calls.{clock_call}
+use Rattle.flash_calls.specs.Store.{Call}
+use Rattle.flash_answers.specs.Laws.{AskLeavesTheMoment, CallsOfNoSession}
+use Rattle.flash_commands.specs.Commands.{commands_of}
+use Rattle.flash_session.specs.Talks.{steps_of}
 use Rattle.flash_script.specs.declared.step.Upkeep.{Upkeep}
-use Rattle.flash_play.specs.Playing.{upkeep_call}
-use Rattle.flash_play.proofs.Upkept.{upkeep_cache}
+use Rattle.flash_script.specs.declared.step.Upkeep.TheVariants.{Room, Reap, Juggle}
+use Rattle.flash_play.specs.Answers.{moment_with, moment_after}
+use Rattle.flash_play.specs.Playing.{Seat, StoreState, Play, Need, Writes, Does, Ends, Rests, first_play, number_after, do_ask, do_asks, seat_at, with_seat, with_line, seat_with_more, feed, need_of, turn_by, called, upkeep_call, play_step, play_from, play_of}
+use Rattle.flash_script.specs.Steps.{Step, Clock, Say, Feed, Turn, Run, Keep}
+use Rattle.flash_play.proofs.Seating.{kept_called}
 
--- a reading of the clock makes it the greater of the two
-risen_moment : (c : Cache) (moment : ℕ) → (clock_next c moment).now ≡ moment
-risen_moment c moment = cond_both (is_reached c.pending_flush moment) _ _ (λ (d : Cache). d.now ≡ moment) (λ reached. refl) (λ pending. refl)
+-- what the laws of the moment say
+pub record MomentLaws : Type 0 where
+  pub asks : AskLeavesTheMoment
+  pub others : CallsOfNoSession
 
-pub clock_moment : (c : Cache) (desk : Desk) (reading : ℕ) → (clock_call c desk reading).cache.now ≡ max c.now (min reading (2 ^ 62))
-clock_moment c desk reading =
-    let moment = min reading (2 ^ 62) in
-    cond_both (nat_lt c.now moment) _ _ (λ (call : Call _). call.cache.now ≡ max c.now moment)
-    (λ rises. risen_moment c moment ∙ (let above : c.now < moment = grind (arith, nat_tests) in omega (arith, above)))
-    (λ stays. let below : moment ≤ c.now = grind (arith, nat_tests) in omega (arith, below))
+module _ (laws : MomentLaws) (g : Geometry) where
+  -- a session's steps leave it
+  asks_moment : (session : ℕ) (state : StoreState × List Told) (asks : List Ask) → (do_asks g session state asks).0.cache.now ≡ state.0.cache.now
+  asks_moment session state [] = refl
+  asks_moment session state (ask ∷ more) =
+      asks_moment session (do_ask g session state ask) more ∙ laws.asks g state.0.cache state.0.desk (number_after session state.1) ask
 
--- upkeep of the store leaves it
-pub upkept_moment : (g : Geometry) (c : Cache) (desk : Desk) (kind : Upkeep) → (upkeep_call g c desk kind).cache.now ≡ c.now
-upkept_moment g c desk kind = upkeep_cache (λ (d : Cache). d.now ≡ c.now) c refl (λ key. refl) g desk kind
+  turn_moment : (p : Play) (line session : ℕ) (seat : Seat) (need : Need) → (turn_by g p line session seat need).kept.cache.now ≡ p.kept.cache.now
+  turn_moment p line session seat (Writes piece) = refl
+  turn_moment p line session seat (Does ask) = asks_moment session (p.kept, seat.told) (ask ∷ [])
+  turn_moment p line session seat Ends = refl
+  turn_moment p line session seat Rests = refl
+
+  -- and so do bytes for it
+  feed_moment : (p : Play) (line session : ℕ) (bytes : List ℕ) → (feed p line session bytes).kept.cache.now ≡ p.kept.cache.now
+  feed_moment p line session bytes =
+      let seat = seat_at p session in
+      cond_both seat.closed (with_line (with_seat p session seat) (codes "closed") line) (with_seat p session (seat_with_more seat bytes)) (λ (q : Play). q.kept.cache.now ≡ p.kept.cache.now)
+      (λ closed. refl) (λ takes. refl)
+
+  -- a call that no session makes leaves the moment that it answers
+  called_moment : (p : Play) (line : ℕ) (call : Call Bool) → (called p line call).kept.cache.now ≡ call.cache.now
+  called_moment p line call = ap (λ (k : StoreState). k.cache.now) (kept_called p line call)
+
+  upkeep_moment : (p : Play) (kind : Upkeep) → (upkeep_call g p.kept.cache p.kept.desk kind).cache.now ≡ p.kept.cache.now
+  upkeep_moment p Room = (laws.others g p.kept.cache p.kept.desk).room_moment
+  upkeep_moment p Reap = (laws.others g p.kept.cache p.kept.desk).reap_moment
+  upkeep_moment p Juggle = (laws.others g p.kept.cache p.kept.desk).juggle_moment
+
+  step_moment : (p : Play) (line : ℕ) (step : Step) → (play_step g p line step).kept.cache.now ≡ moment_with p.kept.cache.now step
+  step_moment p line (Clock reading) =
+      called_moment p line (clock_call p.kept.cache p.kept.desk reading) ∙ (laws.others g p.kept.cache p.kept.desk).moment reading
+  step_moment p line (Keep kind) = called_moment p line (upkeep_call g p.kept.cache p.kept.desk kind) ∙ upkeep_moment p kind
+  step_moment p line (Say session bytes) = feed_moment p line session (bytes ++ 13 ∷ 10 ∷ [])
+  step_moment p line (Feed session bytes) = feed_moment p line session bytes
+  step_moment p line (Turn session) = turn_moment p line session (seat_at p session) (need_of g (seat_at p session))
+  step_moment p line (Run session) =
+      let seat = seat_at p session in
+      asks_moment session (p.kept, seat.told) (drop (length seat.told) (steps_of (commands_of g.item_max seat.given).asked))
+
+  steps_moment : (p : Play) (line : ℕ) (steps : List Step) → (play_from g p line steps).kept.cache.now ≡ moment_after p.kept.cache.now steps
+  steps_moment p line [] = refl
+  steps_moment p line (step ∷ steps) =
+      steps_moment (play_step g p line step) (line + 1) steps ∙ ap (λ now. moment_after now steps) (step_moment p line step)
+
+  -- a script leaves the store at the moment that its readings make
+  pub play_moment : (steps : List Step) → (play_of g steps).kept.cache.now ≡ moment_after 0 steps
+  play_moment steps = steps_moment (first_play g) 2 steps

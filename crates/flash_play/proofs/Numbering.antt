@@ -6,8 +6,8 @@ use Rattle.flash_names.specs.declared.place.Id.{Id}
 use Rattle.flash_names.specs.declared.geometry.Geometry.{Geometry}
 use Rattle.flash_entry.specs.declared.found.Told.{Told}
 use Rattle.flash_machine.specs.NewSteps.{IsNew}
-use Rattle.flash_core.specs.Store.{Call}
-use Rattle.flash_core.specs.Calls.{clock_call}
+use Rattle.flash_calls.specs.Calls.{clock_call}
+use Rattle.flash_calls.specs.Store.{Call}
 use Rattle.flash_answers.specs.Records.{AreOfNoStep}
 use Rattle.flash_commands.specs.Commands.{commands_of}
 use Rattle.flash_session.specs.Talks.{steps_of}
@@ -43,9 +43,9 @@ module _ (laws : NumberLaws) where
       ((laws.numbers p.kept.journal call.entries).none id none (numbered session is)))
 
   pub upkeep_none : (g : Geometry) (p : Play) (kind : Upkeep) → AreOfNoStep (upkeep_call g p.kept.cache p.kept.desk kind).entries
-  upkeep_none g p Room = (laws.others g p.kept.cache p.kept.desk).room.entries
-  upkeep_none g p Reap = (laws.others g p.kept.cache p.kept.desk).reap.entries
-  upkeep_none g p Juggle = (laws.others g p.kept.cache p.kept.desk).juggle.entries
+  upkeep_none g p Room = (laws.others g p.kept.cache p.kept.desk).room
+  upkeep_none g p Reap = (laws.others g p.kept.cache p.kept.desk).reap
+  upkeep_none g p Juggle = (laws.others g p.kept.cache p.kept.desk).juggle
 
   feed_numbered : (p : Play) (line session : ℕ) (bytes : List ℕ) → length p.seats ≡ 16 → IsSession session → IsNumbered p → IsNumbered (feed p line session bytes)
   feed_numbered p line session bytes sixteen is numbered =
@@ -72,7 +72,7 @@ module _ (laws : NumberLaws) where
   -- each step keeps each session's next number new
   pub step_numbered : (g : Geometry) (p : Play) (line : ℕ) (step : Step) → length p.seats ≡ 16 → IsSeated step → IsNumbered p → IsNumbered (play_step g p line step)
   step_numbered g p line (Clock reading) sixteen seated numbered =
-      called_numbered p line (clock_call p.kept.cache p.kept.desk reading) ((laws.others g p.kept.cache p.kept.desk).clock reading).entries numbered
+      called_numbered p line (clock_call p.kept.cache p.kept.desk reading) ((laws.others g p.kept.cache p.kept.desk).clock reading) numbered
   step_numbered g p line (Keep kind) sixteen seated numbered = called_numbered p line (upkeep_call g p.kept.cache p.kept.desk kind) (upkeep_none g p kind) numbered
   step_numbered g p line (Say session bytes) sixteen seated numbered = feed_numbered p line session (bytes ++ 13 ∷ 10 ∷ []) sixteen seated numbered
   step_numbered g p line (Feed session bytes) sixteen seated numbered = feed_numbered p line session bytes sixteen seated numbered
@@ -86,5 +86,5 @@ module _ (laws : NumberLaws) where
       (λ id other new. asks_leave_other laws g session id (p.kept, seat.told) left other new) numbered
 
 -- before the first step
-pub first_numbered : IsNumbered first_play
-first_numbered session is = record { pass = is.some; seq = tt }
+pub first_numbered : (g : Geometry) → IsNumbered (first_play g)
+first_numbered g session is = record { pass = is.some; seq = tt }

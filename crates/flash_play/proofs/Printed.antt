@@ -10,28 +10,19 @@ use mathlib.Core.Logic.{dite}
 use native.Mathlib.Decide.{ℕ_discrete}
 use Rattle.flash_names.specs.declared.geometry.Geometry.{Geometry}
 use Rattle.flash_machine.specs.Cache.{Cache}
-use Rattle.flash_core.specs.Store.{Desk, Call}
-use Rattle.flash_core.specs.Calls.{clock_call}
-use Rattle.flash_play.specs.Answers.{bytes_for, moment_with, moment_after}
+use Rattle.flash_calls.specs.Calls.{clock_call}
+use Rattle.flash_calls.specs.Store.{Desk, Call}
 use Rattle.flash_play.specs.Playing.{Seat, Play, Need, Writes, Does, Ends, Rests, need_of, turn_by, seat_at, with_seat, with_line, seat_with_more, feed, after_call, upkeep_call, play_step, play_from, play_of, first_play}
 use Rattle.flash_play.specs.Printing.{printed_line, feed_prints, turn_prints, step_prints, upkeep_does, steps_print, names, EveryPlayIsPrinted}
 use Rattle.flash_script.specs.Steps.{Step, Clock, Say, Feed, Turn, Run, Keep, IsSession, IsSeated, AreSeated}
 use Rattle.flash_play.proofs.Lists.{get-set_same, get-set_other}
-use Rattle.flash_play.proofs.Holding.{Holds}
-use Rattle.flash_play.proofs.Right.{turned_by, since_by, step_holds, first_holds}
+use Rattle.flash_play.proofs.Moments.{MomentLaws, play_moment}
 use Rattle.flash_play.proofs.Seating.{step_seats, seats_called}
-use Rattle.flash_play.proofs.Serving.{StepLaws}
-use Rattle.flash_play.proofs.UpTo.{ByteLaws}
 
 -- the text of a line that names the script's line, after what was printed before
 line_text : (printed word : List ℕ) (line : ℕ) → printed ++ word ++ 32 ∷ decimal line ++ 10 ∷ [] ≡ printed ++ printed_line word line
 line_text printed word line =
     append_assoc (printed ++ word) (32 ∷ decimal line) (10 ∷ []) ∙ append_assoc printed word (32 ∷ decimal line ++ 10 ∷ [])
-
--- the moment after one step more
-moment_more : (now : ℕ) (steps : List Step) (step : Step) → moment_after now (steps ++ step ∷ []) ≡ moment_with (moment_after now steps) step
-moment_more now [] step = refl
-moment_more now (first ∷ steps) step = moment_more (moment_with now first) steps step
 
 -- a play of one step more
 played_more : (g : Geometry) (p : Play) (line : ℕ) (steps : List Step) (step : Step) → play_from g p line (steps ++ step ∷ []) ≡ play_step g (play_from g p line steps) (line + length steps) step
@@ -43,18 +34,15 @@ played_more g p line (first ∷ steps) step =
 length_more : (steps : List Step) (step : Step) → 2 + length steps + 1 ≡ 2 + length (steps ++ step ∷ [])
 length_more steps step = let more : length (steps ++ step ∷ []) ≡ length steps + 1 = length-append steps (step ∷ []) in omega (arith, more)
 
--- what was so far played, and told of the clock, is read off the steps before
-record Follows (g : Geometry) (p : Play) (line : ℕ) (before : List Step) (now : ℕ) : Type 0 where
+-- what was so far played is read off the steps before
+record Follows (g : Geometry) (p : Play) (line : ℕ) (before : List Step) : Type 0 where
   played : p ≡ play_of g before
   line_is : line ≡ 2 + length before
-  now_is : now ≡ moment_after 0 before
 
-follows_more : (g : Geometry) (p : Play) (line : ℕ) (before : List Step) (now : ℕ) (step : Step) → Follows g p line before now
-    → Follows g (play_step g p line step) (line + 1) (before ++ step ∷ []) (moment_with now step)
-follows_more g p line before now step was = record {
-  played = λ i. (ap (λ (q : Play). play_step g q line step) was.played ∙ ap (λ n. play_step g (play_of g before) n step) was.line_is ∙ sym (played_more g first_play 2 before step)) i;
+follows_more : (g : Geometry) (p : Play) (line : ℕ) (before : List Step) (step : Step) → Follows g p line before → Follows g (play_step g p line step) (line + 1) (before ++ step ∷ [])
+follows_more g p line before step was = record {
+  played = λ i. (ap (λ (q : Play). play_step g q line step) was.played ∙ ap (λ n. play_step g (play_of g before) n step) was.line_is ∙ sym (played_more g (first_play g) 2 before step)) i;
   line_is = ap (λ n. n + 1) was.line_is ∙ length_more before step;
-  now_is = ap (λ n. moment_with n step) was.now_is ∙ sym (moment_more 0 before step);
 }
 
 -- a line is printed unless something was done
@@ -73,7 +61,7 @@ clock_done : (c : Cache) (desk : Desk) (reading : ℕ) → (clock_call c desk re
 clock_done c desk reading =
     cond_both (nat_lt c.now (min reading (2 ^ 62))) _ _ (λ (call : Call Bool). call.answer ≡ nat_lt c.now (min reading (2 ^ 62))) (λ above. sym above) (λ below. sym below)
 
-module _ (laws : StepLaws) (byte_laws : ByteLaws) (g : Geometry) where
+module _ (laws : MomentLaws) (g : Geometry) where
   -- bytes for a session
   feed_printed : (before : List Step) (p : Play) (line session : ℕ) (bytes : List ℕ) → p ≡ play_of g before → (feed p line session bytes).printed ≡ p.printed ++ feed_prints g before line session
   feed_printed before p line session bytes played =
@@ -89,32 +77,30 @@ module _ (laws : StepLaws) (byte_laws : ByteLaws) (g : Geometry) where
   turn_printed p line session seat Rests = line_text p.printed (codes "idle") line
 
   -- one step prints what is read off those before it
-  step_printed : (before : List Step) (p : Play) (line : ℕ) (step : Step) (now : ℕ) → p.kept.cache.now ≡ now → Follows g p line before now → (play_step g p line step).printed ≡ p.printed ++ step_prints g before line step
-  step_printed before p line (Clock reading) now moment follows =
+  step_printed : (before : List Step) (p : Play) (line : ℕ) (step : Step) → Follows g p line before → (play_step g p line step).printed ≡ p.printed ++ step_prints g before line step
+  step_printed before p line (Clock reading) follows =
       let noted : Play = record p { kept = after_call p.kept (clock_call p.kept.cache p.kept.desk reading) } in
       printed_unless (clock_call p.kept.cache p.kept.desk reading).answer noted (codes "idle") line
       ∙ ap (λ done. p.printed ++ (if done then [] else printed_line (codes "idle") line))
-      (clock_done p.kept.cache p.kept.desk reading ∙ ap (λ n. nat_lt n (min reading (2 ^ 62))) (moment ∙ follows.now_is))
-  step_printed before p line (Say session bytes) now moment follows = feed_printed before p line session (bytes ++ 13 ∷ 10 ∷ []) follows.played
-  step_printed before p line (Feed session bytes) now moment follows = feed_printed before p line session bytes follows.played
-  step_printed before p line (Turn session) now moment follows =
+      (clock_done p.kept.cache p.kept.desk reading ∙ ap (λ n. nat_lt n (min reading (2 ^ 62))) (ap (λ (q : Play). q.kept.cache.now) follows.played ∙ play_moment laws g before))
+  step_printed before p line (Say session bytes) follows = feed_printed before p line session (bytes ++ 13 ∷ 10 ∷ []) follows.played
+  step_printed before p line (Feed session bytes) follows = feed_printed before p line session bytes follows.played
+  step_printed before p line (Turn session) follows =
       turn_printed p line session (seat_at p session) (need_of g (seat_at p session))
       ∙ ap (λ (q : Play). p.printed ++ turn_prints line (need_of g (seat_at q session))) follows.played
-  step_printed before p line (Run session) now moment follows = sym (append-nil p.printed)
-  step_printed before p line (Keep kind) now moment follows =
+  step_printed before p line (Run session) follows = sym (append-nil p.printed)
+  step_printed before p line (Keep kind) follows =
       let call = upkeep_call g p.kept.cache p.kept.desk kind in
       printed_unless call.answer (record p { kept = after_call p.kept call }) (codes "idle") line
       ∙ ap (λ (q : Play). p.printed ++ (if upkeep_does g q kind then [] else printed_line (codes "idle") line)) follows.played
 
   -- so do all steps
-  steps_printed : (before : List Step) (p : Play) (line : ℕ) (steps : List Step) (now : ℕ) (given turned : ℕ → List ℕ) (since : ℕ → Bool) → AreSeated steps → Holds g p now given turned since → Follows g p line before now
-      → (play_from g p line steps).printed ≡ p.printed ++ steps_print g before line steps
-  steps_printed before p line [] now given turned since seated was follows = sym (append-nil p.printed)
-  steps_printed before p line (step ∷ steps) now given turned since seated was follows =
+  steps_printed : (before : List Step) (p : Play) (line : ℕ) (steps : List Step) → Follows g p line before → (play_from g p line steps).printed ≡ p.printed ++ steps_print g before line steps
+  steps_printed before p line [] follows = sym (append-nil p.printed)
+  steps_printed before p line (step ∷ steps) follows =
       let next = play_step g p line step in
-      steps_printed (before ++ step ∷ []) next (line + 1) steps (moment_with now step) (λ session. given session ++ bytes_for session step) (turned_by step given turned) (since_by step since)
-      seated.1 (step_holds laws byte_laws g p line step now given turned since seated.0 was) (follows_more g p line before now step follows)
-      ∙ ap (λ (l : List ℕ). l ++ steps_print g (before ++ step ∷ []) (line + 1) steps) (step_printed before p line step now was.moment follows)
+      steps_printed (before ++ step ∷ []) next (line + 1) steps (follows_more g p line before step follows)
+      ∙ ap (λ (l : List ℕ). l ++ steps_print g (before ++ step ∷ []) (line + 1) steps) (step_printed before p line step follows)
       ∙ append_assoc p.printed (step_prints g before line step) (steps_print g (before ++ step ∷ []) (line + 1) steps)
 
 -- whether a session is made
@@ -183,8 +169,8 @@ none_made (suc n) zero = refl
 none_made (suc n) (suc i) = none_made n i
 
 -- the law
-pub every_play_prints : StepLaws → ByteLaws → EveryPlayIsPrinted
-every_play_prints laws byte_laws = λ g steps seated. record {
-  printed = steps_printed laws byte_laws g [] first_play 2 steps 0 (λ session. []) (λ session. []) (λ session. false) seated (first_holds laws byte_laws g) (record { played = refl; line_is = refl; now_is = refl });
-  made = λ session is. steps_made g session is first_play 2 steps refl seated ∙ ap (λ b. b || list_any (names session) steps) (none_made 16 (session - 1));
+pub every_play_prints : MomentLaws → EveryPlayIsPrinted
+every_play_prints laws = λ g steps seated. record {
+  printed = steps_printed laws g [] (first_play g) 2 steps (record { played = refl; line_is = refl });
+  made = λ session is. steps_made g session is (first_play g) 2 steps refl seated ∙ ap (λ b. b || list_any (names session) steps) (none_made 16 (session - 1));
 }

@@ -1,37 +1,29 @@
 -- Every script's journal is a run, and each of its sessions is answered by it.
 use Rattle.std.proofs.Common.{◌≡◌, ◌≢◌, ℕ, ◌+◌, ◌-◌, Bool, true, false, List, [], ◌∷◌, ◌++◌, length, drop, if◌then◌else◌, refl, sym, ◌∙◌, ap, subst, arith, append_assoc, Option}
-use Rattle.std.specs.FinMap as finite
-use Rattle.std.specs.Ordering.{nat_cmp}
-use Rattle.std.specs.Cmp.Lexicographic.{slice_cmp}
-use Rattle.std.specs.Prelude.{nat_eq, slice_get, ◌||◌, None, Some}
+use Rattle.std.specs.Prelude.{nat_eq, slice_get, ◌||◌, Some}
 use Rattle.std.proofs.lemmas.Bool.Decides.{nat_tests}
 use Rattle.std.proofs.lemmas.List.{append-nil}
+use Rattle.flash_names.specs.Geometry.{Passes}
 use Rattle.flash_names.specs.declared.geometry.Geometry.{Geometry}
 use Rattle.flash_entry.specs.declared.ask.Ask.{Ask}
 use Rattle.flash_entry.specs.declared.found.Told.{Told}
-use Rattle.flash_machine.specs.Cache.{Cache, first_cache}
-use Rattle.flash_index.specs.Listed.{IsListed}
-use Rattle.flash_core.specs.Store.{first_desk}
+use Rattle.flash_machine.specs.Cache.{Cache}
 use Rattle.flash_answers.specs.AskCalls.{ask_call}
-use Rattle.flash_answers.specs.InMemory.{AreHere}
 use Rattle.flash_commands.specs.Parts.{Asked, Read}
 use Rattle.flash_commands.specs.Commands.{commands_of}
 use Rattle.flash_session.specs.Pieces.{next_piece}
 use Rattle.flash_session.specs.Talks.{talk_of, steps_of}
-use Rattle.flash_play.specs.Answers.{bytes_for, bytes_before_last_run, bytes_to, is_run, is_turn, turned_since, moment_after, moment_with, IsRight, EveryPlayIsRight}
+use Rattle.flash_play.specs.Answers.{bytes_for, bytes_before_last_run, bytes_to, is_run, is_turn, turned_since, IsRight, EveryPlayIsRight}
 use Rattle.flash_play.specs.Playing.{Seat, StoreState, Play, Need, Writes, Does, Ends, Rests, first_play, number_after, do_ask, do_asks, seat_at, with_seat, need_of, turn_by, turn, seat_after_run, run, is_end, play_step, play_from, play_of}
 use Rattle.flash_script.specs.Steps.{Step, Clock, Say, Feed, Turn, Run, Keep, IsSession, IsSeated, AreSeated}
 use Rattle.flash_play.proofs.BeforeLastRun.{turned_behind, turned_from_first}
 use Rattle.flash_play.proofs.Holding.{Holds, each_with, other_up, clock_holds, upkeep_holds, feed_holds}
+use Rattle.flash_play.proofs.Moments.{play_moment}
 use Rattle.flash_play.proofs.Numbering.{step_numbered, first_numbered}
 use Rattle.flash_play.proofs.Seating.{step_seats, nobody}
-use Rattle.flash_play.proofs.Serving.{StepLaws, number_laws, IsKept, Serves, ask_serves, asks_serve, asks_moment}
+use Rattle.flash_play.proofs.Serving.{StepLaws, number_laws, IsKept, Serves, ask_serves, asks_serve}
 use Rattle.flash_play.proofs.Turning.{writes_a_piece, does_an_ask, ends_there, rests_there, not_both, wrote, did, ended, rested}
 use Rattle.flash_play.proofs.UpTo.{ByteLaws, IsUpTo, steps_in, pieces_in, behind_all, at_end, given_none, first_up, is_answered_so_far, is_answered}
-
--- before the first entry no item is there
-first_here : AreHere first_cache.items
-first_here key item is = absurd (let none : None ≡ Some item = sym (finite.get-empty (slice_cmp nat_cmp) key) ∙ is in cc none)
 
 -- what each session was given before its last run, and whether it took single turns since, after a step more
 abbrev pub turned_by : Step → (ℕ → List ℕ) → (ℕ → List ℕ) → ℕ → List ℕ
@@ -42,7 +34,7 @@ since_by step since session = if is_run session step then false else is_turn ses
 
 module _ (laws : StepLaws) (byte_laws : ByteLaws) (g : Geometry) where
   -- a session's single turn
-  module _ (p : Play) (line session now : ℕ) (given turned : ℕ → List ℕ) (since : ℕ → Bool) (was : Holds g p now given turned since) (is : IsSession session) where
+  module _ (p : Play) (line session : ℕ) (given turned : ℕ → List ℕ) (since : ℕ → Bool) (was : Holds g p given turned since) (is : IsSession session) where
     abbrev turner : Seat
     turner = seat_at p session
 
@@ -109,12 +101,6 @@ module _ (laws : StepLaws) (byte_laws : ByteLaws) (g : Geometry) where
     turn_kept Ends same = was.kept
     turn_kept Rests same = was.kept
 
-    turn_moment : (need : Need) → (turn_by g p line session turner need).kept.cache.now ≡ now
-    turn_moment (Writes piece) = was.moment
-    turn_moment (Does ask) = laws.moment g p.kept.cache p.kept.desk (number_after session turner.told) ask ∙ was.moment
-    turn_moment Ends = was.moment
-    turn_moment Rests = was.moment
-
     turn_all : (need : Need) → need_of g turner ≡ need → (other : ℕ) → IsSession other
         → IsUpTo g other (given other ++ []) (turned other) (since_then other) (turn_by g p line session turner need).kept.journal (seat_at (turn_by g p line session turner need) other)
     turn_all (Writes piece) same =
@@ -128,9 +114,8 @@ module _ (laws : StepLaws) (byte_laws : ByteLaws) (g : Geometry) where
         turn_without (turn_by g p line session turner Rests) (record turner { closed = false }) refl refl
         (rested byte_laws g session (given session) (turned session) (since session) p.kept.journal turner turner_up (rests_there piece_there ask_there end_there same))
 
-    turn_holds : Holds g (turn g p line session) now (λ other. given other ++ []) turned since_then
+    turn_holds : Holds g (turn g p line session) (λ other. given other ++ []) turned since_then
     turn_holds = record {
-      moment = turn_moment (need_of g turner);
       kept = turn_kept (need_of g turner) refl;
       sixteen = step_seats g p line (Turn session) was.sixteen;
       numbered = step_numbered (number_laws laws) g p line (Turn session) was.sixteen is was.numbered;
@@ -138,7 +123,7 @@ module _ (laws : StepLaws) (byte_laws : ByteLaws) (g : Geometry) where
     }
 
   -- all turns of a session
-  module _ (p : Play) (line session now : ℕ) (given turned : ℕ → List ℕ) (since : ℕ → Bool) (was : Holds g p now given turned since) (is : IsSession session) where
+  module _ (p : Play) (line session : ℕ) (given turned : ℕ → List ℕ) (since : ℕ → Bool) (was : Holds g p given turned since) (is : IsSession session) where
     abbrev seat : Seat
     seat = seat_at p session
 
@@ -215,9 +200,8 @@ module _ (laws : StepLaws) (byte_laws : ByteLaws) (g : Geometry) where
         subst (λ (b : Bool). IsUpTo g other (given other) (if b then given other else turned other) (if b then false else since other) after.0.journal (seat_at p other)) (sym no)
         (other_up laws g session other before (drop (length seat.told) (steps_of read.asked)) (given other) (turned other) (since other) (seat_at p other) differ (was.each other is_other))
 
-    run_holds : Holds g (run g p session) now (λ other. given other ++ []) after_run after_since
+    run_holds : Holds g (run g p session) (λ other. given other ++ []) after_run after_since
     run_holds = record {
-      moment = asks_moment laws g session before (drop (length seat.told) (steps_of read.asked)) ∙ was.moment;
       kept = run_serves.kept;
       sixteen = step_seats g p line (Run session) was.sixteen;
       numbered = step_numbered (number_laws laws) g p line (Run session) was.sixteen is was.numbered;
@@ -226,45 +210,41 @@ module _ (laws : StepLaws) (byte_laws : ByteLaws) (g : Geometry) where
     }
 
   -- each step keeps all of it
-  pub step_holds : (p : Play) (line : ℕ) (step : Step) (now : ℕ) (given turned : ℕ → List ℕ) (since : ℕ → Bool) → IsSeated step → Holds g p now given turned since
-      → Holds g (play_step g p line step) (moment_with now step) (λ session. given session ++ bytes_for session step) (turned_by step given turned) (since_by step since)
-  step_holds p line (Clock reading) now given turned since seated was = clock_holds laws g byte_laws p line reading now given turned since was
-  step_holds p line (Say session bytes) now given turned since seated was = feed_holds laws g byte_laws p line session (bytes ++ 13 ∷ 10 ∷ []) now given turned since was seated
-  step_holds p line (Feed session bytes) now given turned since seated was = feed_holds laws g byte_laws p line session bytes now given turned since was seated
-  step_holds p line (Keep kind) now given turned since seated was = upkeep_holds laws g byte_laws p line kind now given turned since was
-  step_holds p line (Turn session) now given turned since seated was = turn_holds p line session now given turned since was seated
-  step_holds p line (Run session) now given turned since seated was = run_holds p line session now given turned since was seated
+  pub step_holds : (p : Play) (line : ℕ) (step : Step) (given turned : ℕ → List ℕ) (since : ℕ → Bool) → IsSeated step → Holds g p given turned since
+      → Holds g (play_step g p line step) (λ session. given session ++ bytes_for session step) (turned_by step given turned) (since_by step since)
+  step_holds p line (Clock reading) given turned since seated was = clock_holds laws g byte_laws p line reading given turned since was
+  step_holds p line (Say session bytes) given turned since seated was = feed_holds laws g byte_laws p line session (bytes ++ 13 ∷ 10 ∷ []) given turned since was seated
+  step_holds p line (Feed session bytes) given turned since seated was = feed_holds laws g byte_laws p line session bytes given turned since was seated
+  step_holds p line (Keep kind) given turned since seated was = upkeep_holds laws g byte_laws p line kind given turned since was
+  step_holds p line (Turn session) given turned since seated was = turn_holds p line session given turned since was seated
+  step_holds p line (Run session) given turned since seated was = run_holds p line session given turned since was seated
 
   -- and so do all steps
-  steps_hold : (p : Play) (line : ℕ) (steps : List Step) (now : ℕ) (given turned : ℕ → List ℕ) (since : ℕ → Bool) → AreSeated steps → Holds g p now given turned since
-      → Holds g (play_from g p line steps) (moment_after now steps) (λ session. given session ++ bytes_to session steps) (λ session. turned_behind session (given session) (turned session) steps) (λ session. turned_since session (since session) steps)
-  steps_hold p line [] now given turned since seated was = subst (λ (given : ℕ → List ℕ). Holds g p now given turned since) (λ j session. sym (append-nil (given session)) j) was
-  steps_hold p line (step ∷ steps) now given turned since seated was =
-      let after = steps_hold (play_step g p line step) (line + 1) steps (moment_with now step) (λ session. given session ++ bytes_for session step) (turned_by step given turned) (since_by step since) seated.1 (step_holds p line step now given turned since seated.0 was) in
+  steps_hold : (p : Play) (line : ℕ) (steps : List Step) (given turned : ℕ → List ℕ) (since : ℕ → Bool) → AreSeated steps → Holds g p given turned since
+      → Holds g (play_from g p line steps) (λ session. given session ++ bytes_to session steps) (λ session. turned_behind session (given session) (turned session) steps) (λ session. turned_since session (since session) steps)
+  steps_hold p line [] given turned since seated was = subst (λ (given : ℕ → List ℕ). Holds g p given turned since) (λ j session. sym (append-nil (given session)) j) was
+  steps_hold p line (step ∷ steps) given turned since seated was =
+      let after = steps_hold (play_step g p line step) (line + 1) steps (λ session. given session ++ bytes_for session step) (turned_by step given turned) (since_by step since) seated.1 (step_holds p line step given turned since seated.0 was) in
       let with_more = λ (session : ℕ). turned_behind session (given session) (turned session) (step ∷ steps) in
       let turns = λ (session : ℕ). turned_since session (since session) (step ∷ steps) in
-      subst (λ (all : ℕ → List ℕ). Holds g (play_from g p line (step ∷ steps)) (moment_after now (step ∷ steps)) all with_more turns) (λ j session. append_assoc (given session) (bytes_for session step) (bytes_to session steps) j) after
+      subst (λ (all : ℕ → List ℕ). Holds g (play_from g p line (step ∷ steps)) all with_more turns) (λ j session. append_assoc (given session) (bytes_for session step) (bytes_to session steps) j) after
 
-  -- before the first step
-  first_listed : IsListed first_cache.items first_desk.lists
-  first_listed = laws.none
-
-  pub first_holds : Holds g first_play 0 (λ session. []) (λ session. []) (λ session. false)
-  first_holds = record {
-    moment = refl;
-    kept = record { running = record { run = record { legal = tt; same = refl }; listed = first_listed; unopened = tt }; here = first_here };
+  -- before the first step, where the geometry keeps its rules
+  first_holds : Passes g → Holds g (first_play g) (λ session. []) (λ session. []) (λ session. false)
+  first_holds passes = record {
+    kept = laws.first g passes;
     sixteen = refl;
-    numbered = first_numbered;
+    numbered = first_numbered g;
     each = λ session is. subst (IsUpTo g session [] [] false []) (sym (nobody 16 (session - 1))) (first_up byte_laws g session);
   }
 
   -- a script whose steps have a session each
-  is_right : (steps : List Step) → AreSeated steps → IsRight g steps
-  is_right steps seated =
-      let all = steps_hold first_play 2 steps 0 (λ session. []) (λ session. []) (λ session. false) seated first_holds in
+  is_right : (steps : List Step) → Passes g → AreSeated steps → IsRight g steps
+  is_right steps passes seated =
+      let all = steps_hold (first_play g) 2 steps (λ session. []) (λ session. []) (λ session. false) seated (first_holds passes) in
       let journal = (play_of g steps).kept.journal in record {
-        legal = all.kept.running.run.legal;
-        moment = ap (λ (c : Cache). c.now) (sym all.kept.running.run.same) ∙ all.moment;
+        legal = all.kept.run.legal;
+        moment = ap (λ (c : Cache). c.now) (sym all.kept.run.same) ∙ play_moment (record { asks = laws.moment; others = laws.others }) g steps;
         so_far = λ session is.
             is_answered_so_far byte_laws g session (bytes_to session steps) (turned_behind session [] [] steps) (turned_since session false steps) journal (seat_at (play_of g steps) session) (all.each session is);
         answered = λ session is none.
@@ -275,4 +255,4 @@ module _ (laws : StepLaws) (byte_laws : ByteLaws) (g : Geometry) where
 
 -- the law
 pub every_play : StepLaws → ByteLaws → EveryPlayIsRight
-every_play laws byte_laws = λ g steps seated. is_right laws byte_laws g steps seated
+every_play laws byte_laws = λ g steps passes seated. is_right laws byte_laws g steps passes seated

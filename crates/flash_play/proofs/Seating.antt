@@ -3,9 +3,9 @@ use Rattle.std.proofs.Common.{◌≡◌, ◌≢◌, ℕ, ◌-◌, Bool, List, []
 use Rattle.std.specs.Prelude.{slice_get, codes, replicate}
 use Rattle.std.proofs.lemmas.Bool.{cond_both}
 use Rattle.flash_names.specs.declared.geometry.Geometry.{Geometry}
-use Rattle.flash_core.specs.Store.{Call}
+use Rattle.flash_calls.specs.Store.{Call}
 use Rattle.flash_play.specs.Playing.{Seat, Play, Need, Writes, Does, Ends, Rests, need_of, turn_by, new_seat, after_call, seat_at, seat_or_new, with_seat, with_line, seat_with_more, feed, called, play_step, upkeep_call}
-use Rattle.flash_core.specs.Calls.{clock_call}
+use Rattle.flash_calls.specs.Calls.{clock_call}
 use Rattle.flash_script.specs.Steps.{Step, Clock, Say, Feed, Turn, Run, Keep, IsSession}
 use Rattle.flash_play.proofs.Lists.{get-set_same, get-set_other}
 

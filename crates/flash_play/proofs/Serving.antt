@@ -13,14 +13,13 @@ use Rattle.flash_entry.specs.declared.entry.Entry.{Entry}
 use Rattle.flash_entry.specs.declared.found.Told.{Told}
 use Rattle.flash_machine.specs.Cache.{first_cache}
 use Rattle.flash_machine.specs.NewSteps.{IsNew}
-use Rattle.flash_index.specs.Laws.{NoItemsAreListed}
-use Rattle.flash_core.specs.declared.found.Found.{Found}
-use Rattle.flash_core.specs.declared.found.Found.TheVariants as found
-use Rattle.flash_core.specs.Calls.{look_call}
-use Rattle.flash_core.specs.Laws.{IsRunning, EachClockGoesOn, EachRoomGoesOn, EachReapingGoesOn, EachJugglingGoesOn}
-use Rattle.flash_core.specs.Store.{Call}
+use Rattle.flash_calls.specs.declared.found.Found.{Found}
+use Rattle.flash_calls.specs.declared.found.Found.TheVariants as found
+use Rattle.flash_calls.specs.Laws.{TheFirstRun, EachClockGoesOn, EachRoomGoesOn, EachReapingGoesOn, EachJugglingGoesOn}
+use Rattle.flash_calls.specs.Lookups.{look_call}
+use Rattle.flash_calls.specs.Running.{IsRunning}
+use Rattle.flash_calls.specs.Store.{Call}
 use Rattle.flash_answers.specs.AskCalls.{ask_call, told_found}
-use Rattle.flash_answers.specs.InMemory.{AreHere}
 use Rattle.flash_answers.specs.Laws.{EachAskGoesOn, EachAskIsTold, EachAskRecordsItself, NumbersStayNew, OutcomesStay, OutcomesAreInOrder, AskLeavesTheMoment, CallsOfNoSession}
 use Rattle.flash_answers.specs.Outcomes.{outcome_from, or_no_memory, outcome, outcomes, HasEntry}
 use Rattle.flash_answers.specs.Records.{entry_ask, IsOf, AreOf, AreOfNoStep, IsOneOf, Keeps}
@@ -49,15 +48,14 @@ pub record StepLaws : Type 0 where
   pub room : EachRoomGoesOn
   pub reaping : EachReapingGoesOn
   pub juggling : EachJugglingGoesOn
-  pub none : NoItemsAreListed
+  pub first : TheFirstRun
 
 pub number_laws : StepLaws → NumberLaws
 number_laws laws = record { records = laws.records; numbers = laws.numbers; others = laws.others }
 
--- the journal is a run that makes the cache, whose keys the desk lists, and all its items are in memory
-pub record IsKept (g : Geometry) (k : StoreState) : Type 0 where
-  pub running : IsRunning g k.journal k.cache k.desk
-  pub here : AreHere k.cache.items
+-- the store has all that it keeps of its journal, which is a run
+abbrev pub IsKept : Geometry → StoreState → Type 0
+IsKept g k = IsRunning g k.journal k.cache k.desk
 
 -- the steps that a session has done are these, they were told this, and the journal has their entries and no other of it
 pub record IsServed (g : Geometry) (pass : ℕ) (journal : List Entry) (done : List Ask) (told : List Told) : Type 0 where
@@ -72,6 +70,7 @@ found_had : (answer : Found) → ends_command (told_found answer) ≡ false
 found_had found.Miss = refl
 found_had (found.Head head) = refl
 found_had (found.Here hit) = refl
+found_had (found.Away head) = refl
 
 pub had_memory : EachAnswerHadMemory
 had_memory g c desk id (asks.Look key look) = found_had (look_call c desk id key look).answer
@@ -148,7 +147,7 @@ module _ (laws : StepLaws) (g : Geometry) (pass : ℕ) where
     of = laws.records g state.0.cache state.0.desk id ask
 
     own : outcome_from g [] first_cache id h2 ≡ Some call.answer
-    own = laws.is_told g state.0.cache state.0.journal state.0.desk id ask was.kept.running was.kept.here was.new
+    own = laws.is_told g state.0.cache state.0.journal state.0.desk id ask was.kept was.new
 
     -- each step up to this one has an entry
     known_more : (seq : ℕ) → 1 ≤ seq → seq ≤ length (state.1 ++ call.answer ∷ []) → HasEntry g pass seq h2
@@ -182,15 +181,13 @@ module _ (laws : StepLaws) (g : Geometry) (pass : ℕ) where
 
     -- one step more
     pub ask_serves : Serves (do_ask g pass state ask) (done ++ ask ∷ [])
-    ask_serves =
-        let on = laws.goes_on g state.0.cache state.0.journal state.0.desk id ask was.kept.running was.kept.here was.new in
-        record {
-          kept = record { running = on.0; here = on.1 };
-          new =
-              let next = (laws.numbers state.0.journal call.entries).next id ask of was.new in
-              subst (λ (n : ℕ). IsNew h2 (record { pass = pass; seq = n + 1 })) (sym (one_more state.1 call.answer)) next;
-          served = served_more;
-        }
+    ask_serves = record {
+      kept = laws.goes_on g state.0.cache state.0.journal state.0.desk id ask was.kept was.new;
+      new =
+          let next = (laws.numbers state.0.journal call.entries).next id ask of was.new in
+          subst (λ (n : ℕ). IsNew h2 (record { pass = pass; seq = n + 1 })) (sym (one_more state.1 call.answer)) next;
+      served = served_more;
+    }
 
   -- and all of them
   pub asks_serve : (state : StoreState × List Told) (done asks : List Ask) → Serves state done → Serves (do_asks g pass state asks) (done ++ asks)
@@ -208,11 +205,6 @@ module _ (laws : StepLaws) (g : Geometry) (pass : ℕ) where
       let es = (ask_call g state.0.cache state.0.desk id ask).entries in
       asks_serve_other other (do_ask g pass state ask) more done told differ
       (served_behind laws g other state.0.journal es done told (other_keeps other done id ask es differ (laws.records g state.0.cache state.0.desk id ask)) was)
-
-  -- no step changes the moment
-  pub asks_moment : (state : StoreState × List Told) (asks : List Ask) → (do_asks g pass state asks).0.cache.now ≡ state.0.cache.now
-  asks_moment state [] = refl
-  asks_moment state (ask ∷ more) = asks_moment (do_ask g pass state ask) more ∙ laws.moment g state.0.cache state.0.desk (number_after pass state.1) ask
 
 module _ (laws : NumberLaws) (g : Geometry) (pass : ℕ) where
   -- the next number of another session is new where it was

@@ -1,6 +1,7 @@
 -- What a script's sessions are answered, read off the script and the journal.
 use Rattle.std.specs.Prelude.{◌≡◌, ℕ, ◌≤◌, max, min, Bool, false, ◌||◌, nat_eq, List, [], ◌∷◌, ◌++◌, length, take, if◌then◌else◌}
 use Rattle.std.specs.List.{list_any}
+use Rattle.flash_names.specs.Geometry.{Passes}
 use Rattle.flash_names.specs.declared.geometry.Geometry.{Geometry}
 use Rattle.flash_entry.specs.declared.entry.Entry.{Entry}
 use Rattle.flash_machine.specs.Legal.{Legal}
@@ -84,8 +85,8 @@ abbrev pub moment_after : ℕ → List Step → ℕ
 moment_after now [] = now
 moment_after now (step ∷ steps) = moment_after (moment_with now step) steps
 
--- every script's journal is a run of the one-thread cache, at the moment that its readings of the clock make, and each
--- of its sessions is answered: the first pieces of the replies to all its bytes, and where it took no single turn after its
+-- the script's journal is a run of the one-thread cache, at the moment that its readings of the clock make, and each of
+-- its sessions is answered: the first pieces of the replies to all its bytes, and where it took no single turn after its
 -- last run, all replies to the bytes before that run
 pub record IsRight (g : Geometry) (steps : List Step) : Type 0 where
   pub legal : Legal g (play_of g steps).kept.journal
@@ -96,5 +97,6 @@ pub record IsRight (g : Geometry) (steps : List Step) : Type 0 where
       → IsAnswered g session (bytes_before_last_run session steps) (play_of g steps).kept.journal
       (seat_at (play_of g steps) session)
 
+-- so it is with every script over a geometry that keeps its rules
 abbrev pub EveryPlayIsRight : Type 0
-EveryPlayIsRight = (g : Geometry) (steps : List Step) → AreSeated steps → IsRight g steps
+EveryPlayIsRight = (g : Geometry) (steps : List Step) → Passes g → AreSeated steps → IsRight g steps

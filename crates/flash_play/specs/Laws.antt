@@ -4,7 +4,7 @@ use Rattle.flash_names.specs.declared.geometry.Geometry.{Geometry}
 use Rattle.flash_names.specs.declared.place.Id.{Id}
 use Rattle.flash_entry.specs.declared.ask.Ask.{Ask}
 use Rattle.flash_machine.specs.Cache.{Cache}
-use Rattle.flash_core.specs.Store.{Desk}
+use Rattle.flash_calls.specs.Store.{Desk}
 use Rattle.flash_answers.specs.AskCalls.{ask_call}
 use Rattle.flash_session.specs.Talks.{ends_command}
 

@@ -6,8 +6,9 @@ use Rattle.flash_entry.specs.declared.ask.Ask.{Ask}
 use Rattle.flash_entry.specs.declared.entry.Entry.{Entry}
 use Rattle.flash_entry.specs.declared.found.Told.{Told}
 use Rattle.flash_machine.specs.Cache.{Cache, first_cache}
-use Rattle.flash_core.specs.Store.{Desk, Call, first_desk}
-use Rattle.flash_core.specs.Calls.{clock_call, room_call, reap_call, juggle_call}
+use Rattle.flash_calls.specs.Store.{Desk, Call, first_desk}
+use Rattle.flash_calls.specs.Calls.{clock_call}
+use Rattle.flash_calls.specs.Rooms.{room_call, reap_call, juggle_call}
 use Rattle.flash_answers.specs.AskCalls.{ask_call}
 use Rattle.flash_commands.specs.declared.place.Place.{Place}
 use Rattle.flash_commands.specs.declared.place.Place.TheVariants.{AtQuit, TooLong}
@@ -43,10 +44,10 @@ abbrev pub new_seat : Seat
 new_seat = record { given = []; told = []; replies = []; closed = false }
 
 -- before the first step
-abbrev pub first_play : Play
-first_play =
+abbrev pub first_play : Geometry → Play
+first_play g =
     record {
-      kept = record { journal = []; cache = first_cache; desk = first_desk };
+      kept = record { journal = []; cache = first_cache; desk = first_desk g };
       printed = [];
       seats = replicate 16 None;
     }
@@ -209,4 +210,4 @@ play_from g play line (step ∷ steps) = play_from g (play_step g play line step
 
 -- a whole script: its steps are on the lines from 2 on
 abbrev pub play_of : Geometry → List Step → Play
-play_of g steps = play_from g first_play 2 steps
+play_of g steps = play_from g (first_play g) 2 steps

@@ -10,15 +10,15 @@ use flash_answers::{
     each_ask_is_told, each_ask_records_itself, numbers_stay_new, outcomes_are_in_order,
     outcomes_stay,
 };
-use flash_commands::{an_end_stays, more_bytes_go_on};
-use flash_core::{
+use flash_calls::{
     each_clock_goes_on, each_juggling_goes_on, each_reaping_goes_on, each_room_goes_on,
+    the_first_run,
 };
-use flash_index::no_items_are_listed;
+use flash_commands::{an_end_stays, more_bytes_go_on};
 use flash_session::{pieces_are_the_replies, pieces_go_on};
 
-/// Steps of sessions from 1 to 16 make a run of the one-thread cache, in which each session is answered as its bytes
-/// and the journal say.
+/// Over a geometry that keeps its rules, steps of sessions from 1 to 16 make a run of the one-thread cache, in which each
+/// session is answered as its bytes and the journal say.
 pub fn every_play_is_right()
     ensures { EveryPlayIsRight }
 {
@@ -34,7 +34,7 @@ pub fn every_play_is_right()
     each_room_goes_on();
     each_reaping_goes_on();
     each_juggling_goes_on();
-    no_items_are_listed();
+    the_first_run();
     more_bytes_go_on();
     an_end_stays();
     pieces_are_the_replies();
@@ -46,23 +46,8 @@ pub fn every_play_is_right()
 pub fn every_play_is_printed()
     ensures { EveryPlayIsPrinted }
 {
-    each_ask_goes_on();
-    each_ask_is_told();
-    each_ask_records_itself();
-    numbers_stay_new();
-    outcomes_stay();
-    outcomes_are_in_order();
     an_ask_leaves_the_moment();
     calls_of_no_session_record_no_step();
-    each_clock_goes_on();
-    each_room_goes_on();
-    each_reaping_goes_on();
-    each_juggling_goes_on();
-    no_items_are_listed();
-    more_bytes_go_on();
-    an_end_stays();
-    pieces_are_the_replies();
-    pieces_go_on();
 }
 
 /// Each step leaves the next number of each session new.

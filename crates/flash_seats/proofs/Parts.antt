@@ -10,7 +10,7 @@ use Rattle.flash_entry.specs.declared.entry.Entry.{Entry}
 use Rattle.flash_entry.specs.declared.found.Told.{Told}
 use Rattle.flash_machine.specs.NewSteps.{IsNew}
 use Rattle.flash_core.specs.Sound.{IsNewTold}
-use Rattle.flash_core.specs.Store.{Store, Call, Becomes}
+use Rattle.flash_calls.specs.Store.{Store, Call, Becomes}
 use Rattle.flash_answers.specs.AskCalls.{ask_call}
 use Rattle.flash_answers.specs.Laws.{EachAskRecordsItself, NumbersStayNew}
 use Rattle.flash_commands.specs.Commands.{commands_of}

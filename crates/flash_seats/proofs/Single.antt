@@ -6,7 +6,7 @@ use Rattle.flash_names.specs.declared.geometry.Geometry.{Geometry}
 use Rattle.flash_names.specs.declared.place.Id.{Id}
 use Rattle.flash_entry.specs.declared.ask.Ask.{Ask}
 use Rattle.flash_entry.specs.declared.found.Told.{Told}
-use Rattle.flash_core.specs.Store.{Store, Becomes}
+use Rattle.flash_calls.specs.Store.{Store, Becomes}
 use Rattle.flash_answers.specs.AskCalls.{ask_call}
 use Rattle.flash_commands.specs.declared.place.Place.TheVariants.{AtQuit, TooLong}
 use Rattle.flash_commands.specs.Commands.{commands_of}

@@ -2,7 +2,7 @@
 use Rattle.std.specs.Prelude.{◌≡◌, ℕ, false, List, [], ◌++◌, drop, Option, None, Some}
 use Rattle.std.specs.List.{AllByRecursion}
 use Rattle.flash_entry.specs.declared.entry.Entry.{Entry}
-use Rattle.flash_core.specs.Store.{Store}
+use Rattle.flash_calls.specs.Store.{Store}
 use Rattle.flash_session.specs.Pieces.{HoldsAPiece}
 use Rattle.flash_session.specs.Stands.{Stands}
 use Rattle.flash_session.specs.Talks.{ends_command}

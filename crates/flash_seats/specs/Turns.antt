@@ -4,7 +4,7 @@ use Rattle.std.specs.List.{AllByRecursion}
 use Rattle.flash_names.specs.declared.geometry.Geometry.{Geometry}
 use Rattle.flash_names.specs.declared.place.Id.{Id}
 use Rattle.flash_entry.specs.declared.found.Told.{Told}
-use Rattle.flash_core.specs.Store.{Store}
+use Rattle.flash_calls.specs.Store.{Store}
 use Rattle.flash_commands.specs.Commands.{commands_of}
 use Rattle.flash_reader.specs.Readers.{room_of, fed}
 use Rattle.flash_session.specs.declared.todo.Ending.{Ending}

@@ -2,7 +2,7 @@
 use Rattle.std.proofs.Common.{◌≡◌, false, true, List, [], ◌∷◌, length, refl, arith}
 use Rattle.std.specs.Prelude.{Option, Some, None, is_some, option_map, drop}
 use Rattle.flash_names.specs.declared.geometry.Geometry.{Geometry}
-use Rattle.flash_core.specs.Store.{Store}
+use Rattle.flash_calls.specs.Store.{Store}
 use Rattle.flash_core.specs.SharedStore.{geometry_of}
 use Rattle.flash_turn.specs.declared.pass.Pass.{Pass}
 use Rattle.flash_turn.specs.declared.turn.Turn.{Turn}

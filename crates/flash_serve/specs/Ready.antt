@@ -1,6 +1,6 @@
 -- When a pass may be handed to another thread. These say what `IsPassOf` says, in equations alone.
 use Rattle.std.specs.Prelude.{◌≡◌, false, [], ◌∷◌, drop, length, Some, option_map, is_some}
-use Rattle.flash_core.specs.Store.{Store}
+use Rattle.flash_calls.specs.Store.{Store}
 use Rattle.flash_core.specs.SharedStore.{geometry_of, own_steps}
 use Rattle.flash_turn.specs.declared.pass.Pass.{Pass}
 use Rattle.flash_turn.specs.declared.turn.Turn.{Turn}

@@ -1,6 +1,7 @@
 ghost use Rattle.std.specs.Prelude.{◌≡◌, [], Some, IfOk};
 
-use flash_core::{Core, Found, OpenWhy};
+use flash_calls::Found;
+use flash_core::{Core, OpenWhy};
 use flash_entry::{Counted, Kept, Look, Mode, Put, Stored};
 use flash_names::{Blob, Geometry, Id, Key};
 use std::alloc::{AllocError, Global};

@@ -1,7 +1,7 @@
 -- The state of a trace as a play has it.
 use Rattle.std.specs.Prelude.{◌≡◌, ℕ, ◌+◌, List, [], ◌∷◌, ◌++◌, length, map, Option, None, Some, IsTrue, is_some, codes, decimal}
 use Rattle.std.specs.Option.{option_map}
-use Rattle.flash_core.specs.Store.{Store}
+use Rattle.flash_calls.specs.Store.{Store}
 use Rattle.flash_play.specs.Numbers.{IsNumbered}
 use Rattle.flash_play.specs.Playing.{Seat, Play}
 use Rattle.flash_seats.specs.declared.seat.Seat as code

@@ -3,12 +3,13 @@
 ghost use Rattle.flash_trace.specs.Ends.{EveryTraceIsRight};
 
 use flash_play::every_play_is_right;
-use flash_script::each_session_has_a_seat;
+use flash_script::{each_line_is_read, each_session_has_a_seat};
 
 /// Every script without a bad line makes such a run.
 pub fn every_trace_is_right()
     ensures { EveryTraceIsRight }
 {
     every_play_is_right();
+    each_line_is_read();
     each_session_has_a_seat();
 }

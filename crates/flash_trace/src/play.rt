@@ -1,5 +1,5 @@
 ghost use Rattle.std.specs.Prelude.{◌≡◌, ℕ, ◌-◌, not, [], ◌∷◌, ◌++◌, Option, None, Some, decimal, length, replicate, slice_set, if◌then◌else◌, IfOk, OnOk, IsTrue, is_some};
-ghost use Rattle.flash_core.specs.Store.{Becomes};
+ghost use Rattle.flash_calls.specs.Store.{Becomes};
 ghost use Rattle.flash_play.specs.Playing as play;
 ghost use Rattle.flash_seats.specs.Seats.{IsSeat};
 ghost use Rattle.flash_script.specs.CodeScripts.{step_meant, IsWithin};

@@ -2,9 +2,10 @@
 use Rattle.std.proofs.Common.{◌≡◌, ℕ, ◌+◌, ◌<◌, suc, Bool, List, [], ◌∷◌, length, get_or, drop, Option, None, Some, IsTrue, is_some, refl, sym, ◌∙◌, ap, subst, arith}
 use Rattle.std.specs.Prelude.{Result, Ok, Err, IfOk, OnOk, replicate}
 use Rattle.std.proofs.Math.Seq.{drop-cons}
+use Rattle.flash_names.specs.declared.geometry.Geometry.{Geometry}
 use Rattle.flash_entry.specs.declared.entry.Entry.{Entry}
 use Rattle.flash_machine.specs.Cache.{Cache, first_cache}
-use Rattle.flash_core.specs.Store.{Store, Desk, first_desk}
+use Rattle.flash_calls.specs.Store.{Store, Desk, first_desk}
 use Rattle.flash_play.specs.Numbers.{IsNumbered}
 use Rattle.flash_play.specs.Playing.{StoreState, first_play, play_of}
 use Rattle.flash_seats.specs.declared.seat.Seat as code
@@ -39,28 +40,28 @@ pub told_entries : (journal : List Entry) (told : Option (List Entry)) → Some 
 told_entries journal told is = ap entries_of is
 
 -- a store that was opened and no session, before the first step
-module _ (s : Store) (p : code_play.Play) (told : s.told ≡ Some []) (cache : s.cache ≡ first_cache) (desk : s.desk ≡ first_desk) (printed : p.printed.items ≡ []) (seats : p.seats.items ≡ replicate 16 None) where
-  first_kept : kept_of s ≡ first_play.kept
+module _ (g : Geometry) (s : Store) (p : code_play.Play) (told : s.told ≡ Some []) (cache : s.cache ≡ first_cache) (desk : s.desk ≡ first_desk g) (printed : p.printed.items ≡ []) (seats : p.seats.items ≡ replicate 16 None) where
+  first_kept : kept_of s ≡ (first_play g).kept
   first_kept =
       let by : Option (List Entry) → Cache → Desk → StoreState = λ t c d. record { journal = entries_of t; cache = c; desk = d } in
       ap (λ (t : Option (List Entry)). by t s.cache s.desk) told ∙ ap (λ (c : Cache). by (Some []) c s.desk) cache ∙ ap (λ (d : Desk). by (Some []) first_cache d) desk
 
-  pub first_is : IsPlay first_play s p
+  pub first_is : IsPlay (first_play g) s p
   first_is = record {
     kept = sym first_kept;
     printed = sym printed;
     sixteen = refl;
-    seats = subst (AreSeats s.geometry.item_max 1 first_play.seats) (sym seats) (none_made s.geometry.item_max 1 16);
+    seats = subst (AreSeats s.geometry.item_max 1 (first_play g).seats) (sym seats) (none_made s.geometry.item_max 1 16);
   }
 
-  first_numbered : IsNumbered first_play
+  first_numbered : IsNumbered (first_play g)
   first_numbered session is = record { pass = is.some; seq = tt }
 
   pub first_goes_on : TraceGoesOn s p
   first_goes_on = record {
     tells = subst (λ (t : Option (List Entry)). IsTrue (is_some t)) (sym told) refl;
     places = ap (λ (l : List (Option code.Seat)). length l) seats;
-    play = first_play;
+    play = first_play g;
     is = first_is;
     numbered = first_numbered;
   }

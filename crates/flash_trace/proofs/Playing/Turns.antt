@@ -7,7 +7,7 @@ use Rattle.flash_names.specs.declared.place.Id.{Id}
 use Rattle.flash_entry.specs.declared.entry.Entry.{Entry}
 use Rattle.flash_machine.specs.NewSteps.{IsNew}
 use Rattle.flash_core.specs.Sound.{IsNewTold}
-use Rattle.flash_core.specs.Store.{Store}
+use Rattle.flash_calls.specs.Store.{Store}
 use Rattle.flash_commands.specs.Commands.{commands_of}
 use Rattle.flash_play.specs.Numbers.{StepsLeaveNumbersNew}
 use Rattle.flash_play.specs.Playing as play

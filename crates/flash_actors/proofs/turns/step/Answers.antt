@@ -5,7 +5,7 @@ use Rattle.flash_names.specs.declared.geometry.Geometry.{Geometry}
 use Rattle.flash_names.specs.declared.place.Id.{Id}
 use Rattle.flash_entry.specs.declared.entry.Entry.{Entry}
 use Rattle.flash_machine.specs.Legal.{Legal}
-use Rattle.flash_core.specs.Store.{Store}
+use Rattle.flash_calls.specs.Store.{Store}
 use Rattle.flash_core.specs.SharedStore.{geometry_of, own_steps, told_pairs}
 use Rattle.flash_core.specs.Sound.{IsNewTold}
 use Rattle.flash_turn.specs.declared.pass.Pass.{Pass}

@@ -1,5 +1,5 @@
 use Rattle.std.proofs.Common.{ap}
-use Rattle.flash_core.specs.Store.{Store}
+use Rattle.flash_calls.specs.Store.{Store}
 use Rattle.flash_actors.proofs.Locked.{clock_new_told, clocked_step, clocked_none, unclocked}
 use Rattle.flash_actors.proofs.under.step_under.Goals as goal
 
@@ -17,7 +17,7 @@ pub returns-in-Ok-do_ask-clause-step : goal.returns-in-Ok-do_ask-clause-step
 returns-in-Ok-do_ask-clause-step g c =
     clocked_step c.calls_of_no_session_record_no_step.ensures c.args.id c.args.ask.now c.args.reading _ c.each_ask_notes_itself.ensures
     c.args.core.now c.clock.new.self c.do_ask.new.core c.make_room_after.new.core c.in-Ok.ensures.ok c.in-Ok-do_ask.ensures.ok
-    c.in-Ok-do_ask.ensures.answer c.make_room_after.ensures c.journal.ensures.run c.journal-in-Ok-do_ask.ensures.run
+    c.in-Ok-do_ask.ensures.answer c.make_room_after.ensures c.journal.ensures.runs c.journal-in-Ok-do_ask.ensures.run
 
 pub returns-in-Err-do_ask-clause-step : goal.returns-in-Err-do_ask-clause-step
 returns-in-Err-do_ask-clause-step g c =

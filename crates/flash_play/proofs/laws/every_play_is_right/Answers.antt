@@ -15,7 +15,7 @@ returns c = every_play (record {
   room = c.each_room_goes_on.ensures;
   reaping = c.each_reaping_goes_on.ensures;
   juggling = c.each_juggling_goes_on.ensures;
-  none = c.no_items_are_listed.ensures;
+  first = c.the_first_run.ensures;
 }) (record {
   goes_on = c.more_bytes_go_on.ensures;
   stays = c.an_end_stays.ensures;

@@ -1,7 +1,7 @@
 use Rattle.std.proofs.Common.{◌≡◌, List, map, Some, sym, ◌∙◌, ap, subst}
 use Rattle.std.proofs.lemmas.List.{length-map}
 use Rattle.flash_names.specs.declared.geometry.Geometry.{Geometry}
-use Rattle.flash_core.specs.Store.{Store}
+use Rattle.flash_calls.specs.Store.{Store}
 use Rattle.flash_script.specs.declared.step.Step.{Step}
 use Rattle.flash_play.specs.Playing.{first_play, play_from, play_of}
 use Rattle.flash_script.specs.CodeScripts.{script_meant, step_meant}
@@ -12,7 +12,7 @@ use Rattle.flash_trace.proofs.run.play_script.Goals as goal
 pub play_steps-requires-clause-going : goal.play_steps-requires-clause-going
 play_steps-requires-clause-going c =
     let opened = c.in-Ok.ensures.opened in
-    first_goes_on c.in-Ok.core c.in_ok-play.play (ap (λ (s : Store). s.told) opened ∙ ap (λ es. Some es) c.new.ensures) (ap (λ (s : Store). s.cache) opened) (ap (λ (s : Store). s.desk) opened)
+    first_goes_on c.args.script.now.geometry c.in-Ok.core c.in_ok-play.play (ap (λ (s : Store). s.told) opened ∙ ap (λ es. Some es) c.new.ensures) (ap (λ (s : Store). s.cache) opened) (ap (λ (s : Store). s.desk) opened)
     c.in_ok-play.ensures.printed c.in_ok-play.ensures.seats
 
 pub returns : goal.returns
@@ -23,14 +23,14 @@ returns c =
     let meant = script_meant bytes script in
     let play = c.in_ok-play.play in
     let opened = c.in-Ok.ensures.opened in
-    let first = first_is core play (ap (λ (s : Store). s.told) opened ∙ ap (λ es. Some es) c.new.ensures) (ap (λ (s : Store). s.cache) opened) (ap (λ (s : Store). s.desk) opened) c.in_ok-play.ensures.printed c.in_ok-play.ensures.seats in
+    let first = first_is script.geometry core play (ap (λ (s : Store). s.told) opened ∙ ap (λ es. Some es) c.new.ensures) (ap (λ (s : Store). s.cache) opened) (ap (λ (s : Store). s.desk) opened) c.in_ok-play.ensures.printed c.in_ok-play.ensures.seats in
     let core2 = c.play_steps.new.core in
     let play2 = c.play_steps.new.play in
     let same : core.geometry ≡ script.geometry = ap (λ (s : Store). s.geometry) opened in
-    let played : IsPlay (play_from core.geometry first_play 2 (map (step_meant bytes) c.deref.result.now)) core2 play2 = c.in_ok-play_steps.ensures.done first_play first in
+    let played : IsPlay (play_from core.geometry (first_play script.geometry) 2 (map (step_meant bytes) c.deref.result.now)) core2 play2 = c.in_ok-play_steps.ensures.done (first_play script.geometry) first in
     let is : IsPlay (play_of script.geometry (map (step_meant bytes) script.steps.items)) core2 play2 =
     subst (λ (l : List Step). IsPlay (play_of script.geometry (map (step_meant bytes) l)) core2 play2) c.deref.ensures.value
-    (subst (λ (g : Geometry). IsPlay (play_from g first_play 2 (map (step_meant bytes) c.deref.result.now)) core2 play2) same played) in
+    (subst (λ (g : Geometry). IsPlay (play_from g (first_play script.geometry) 2 (map (step_meant bytes) c.deref.result.now)) core2 play2) same played) in
     if_ok c.play_output.result _ _ (λ out. λ printed. output_is meant c.args.with_journal core2 play2 c.entries.result.now c.len.result out.items
     printed
     (c.entries.ensures ∙ told_entries c.journal.result.now core2.told c.journal.ensures.told)

@@ -1,0 +1,22 @@
+pub mod Goes
+pub mod Quiet
+pub mod Paging
+pub mod Ending
+pub mod Sweeping
+pub mod Standing
+pub mod Holding
+pub mod Running
+pub mod Commanding
+pub mod Counting
+pub mod Timing
+pub mod Roaming
+pub mod Values
+pub mod Looking
+mod Telling
+pub mod Starting
+pub mod Sealing
+pub mod Uncounted
+pub mod Opening
+pub mod OpenedDesk
+pub mod MovedDesk
+pub mod Moving

@@ -1,0 +1,5 @@
+use Rattle.flash_calls.proofs.Roaming.{juggle_runs}
+use Rattle.flash_calls.proofs.laws.each_juggling_goes_on.Goals as goal
+
+pub returns : goal.returns
+returns c = λ g cache h desk is. juggle_runs c.laws_below.ensures g h cache desk is

@@ -1,0 +1,16 @@
+pub mod Places
+pub mod Store
+pub mod Changes
+pub mod Sweeps
+pub mod Calls
+pub mod Lookups
+pub mod Rooms
+pub mod Moves
+pub mod Seals
+pub mod Placed
+pub mod Paged
+pub mod Counted
+pub mod Held
+pub mod Running
+pub mod Below
+pub mod Laws
